@@ -1,7 +1,30 @@
-//! What every crate of munged speaks of: the numbers of the format, pairs, events, and the two
-//! refusals that carry nothing.
+//! What every crate of munged speaks of: the numbers of the format, identities and settings, pairs,
+//! histories with their verdicts, the trait of replay structures, and the two refusals that carry
+//! nothing.
 #![tactic(auto)]
 
+mod algorithms;
+mod history;
+mod identity;
+pub mod laws;
+mod mac_bytes;
+mod pair;
 mod refusal;
+mod replay;
+mod rule;
+mod settings;
+mod status;
 
+pub use algorithms::{Cipher, MacKind};
+pub use history::{Event, Verdict};
+pub use identity::Identity;
+pub use mac_bytes::MacBytes;
+pub use pair::Pair;
 pub use refusal::{Failed, NoMemory};
+pub use replay::{Purged, Replay};
+pub use rule::Rule;
+pub use settings::Settings;
+pub use status::Status;
+
+#[cfg(test)]
+mod tests;

@@ -1,5 +1,7 @@
 //! The refusals that carry nothing but themselves.
 
+ghost use Rattle.std.specs.Prelude.{Some, codes};
+
 use std::alloc::{AllocError, AllocFailed};
 use std::error::Error;
 use std::fmt;
@@ -13,12 +15,16 @@ pub struct NoMemory;
 pub struct Failed;
 
 impl fmt::Display for NoMemory {
+    ghost output = { λ _. Some (codes "no memory") };
+
     fn fmt<W: fmt::Write>(&self, f: &mut fmt::Formatter<W>) -> fmt::Result {
         write!(f, "no memory")
     }
 }
 
 impl fmt::Display for Failed {
+    ghost output = { λ _. Some (codes "failed") };
+
     fn fmt<W: fmt::Write>(&self, f: &mut fmt::Formatter<W>) -> fmt::Result {
         write!(f, "failed")
     }
