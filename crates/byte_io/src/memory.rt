@@ -1,0 +1,13 @@
+//! Forms in memory, for tests: their contents are given when they are made, with the numbers of the
+//! calls that are to fail.
+
+mod calls;
+mod clock;
+mod files;
+mod sink;
+mod source;
+
+pub use clock::MemClock;
+pub use files::{MemFiles, NamedFile};
+pub use sink::MemSink;
+pub use source::MemSource;

@@ -1,0 +1,5 @@
+//! Tests of the public calls.
+
+mod memory;
+mod real;
+mod streams;
