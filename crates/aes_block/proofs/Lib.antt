@@ -1,0 +1,12 @@
+pub mod Packing
+pub mod SBoxTables
+pub mod MixTables
+pub mod UnmixTables
+pub mod FieldLaws
+pub mod MatrixLaws
+pub mod Words
+pub mod RoundsLemmas
+pub mod KeyWords
+pub mod Blocks
+pub mod OneToOne
+pub mod Keys

@@ -1,0 +1,6 @@
+use Rattle.std.proofs.Common.{arith, ◌∙◌}
+use Rattle.aes_block.proofs.UnmixTables.{unmixed_row0_at}
+use Rattle.aes_block.proofs.inverse_tables.unmixed_row0.Goals as goal
+
+pub returns : goal.returns
+returns c = c.new.ensures ∙ unmixed_row0_at c.args.byte (omega arith)

@@ -1,0 +1,6 @@
+use Rattle.std.proofs.Common.{arith, ◌∙◌}
+use Rattle.aes_block.proofs.UnmixTables.{unmixed_row1_at}
+use Rattle.aes_block.proofs.inverse_tables.unmixed_row1.Goals as goal
+
+pub returns : goal.returns
+returns c = c.new.ensures ∙ unmixed_row1_at c.args.byte (omega arith)

@@ -1,0 +1,6 @@
+use Rattle.std.proofs.Common.{arith, ◌∙◌}
+use Rattle.aes_block.proofs.MixTables.{mixed_row2_at}
+use Rattle.aes_block.proofs.tables.mixed_row2.Goals as goal
+
+pub returns : goal.returns
+returns c = c.new.ensures ∙ mixed_row2_at c.args.byte (omega arith)

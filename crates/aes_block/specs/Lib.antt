@@ -1,0 +1,9 @@
+pub mod Field
+pub mod State
+pub mod Packed
+pub mod SubBytes
+pub mod Rounds
+pub mod KeyExpansion
+pub mod Cipher
+pub mod Schedule
+pub mod DataKey
