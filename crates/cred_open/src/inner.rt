@@ -1,0 +1,81 @@
+//! The inner part of a credential: what it says, laid out in bytes.
+
+ghost use Rattle.std.specs.Prelude.{◌≡◌, ◌≢◌, ◌+◌, ◌≤◌, take, drop, IfSome, IfNone};
+ghost use Rattle.std.specs.Int.{w32, from_be_bytes};
+ghost use Rattle.cred_open.specs.Inner.{content_of};
+ghost use Rattle.cred_open.specs.InnerPart.{Content, IsContent, inner_part};
+
+/// The bytes of an inner part before its payload.
+const HEAD_SIZE: usize = 41;
+
+/// The bytes of an IPv4 address.
+const ADDR_SIZE: u8 = 4;
+
+/// The most bytes of a payload.
+const PAYLOAD_LIMIT: usize = 1_048_576;
+
+/// What a credential says. Times are in seconds.
+#[derive(Clone, Copy, Debug, PartialEq, Eq)]
+pub struct Inner<'a> {
+    /// Bytes drawn at random.
+    pub salt: [u8; 8],
+    /// The IPv4 address of the host that sealed.
+    pub addr: [u8; 4],
+    /// When it was sealed, since 1970.
+    pub time: u32,
+    /// For how long it is good.
+    pub ttl: u32,
+    /// The UID of the caller who asked for it.
+    pub uid: u32,
+    /// The GID of the caller who asked for it.
+    pub gid: u32,
+    /// The UID that alone may open it, or 4294967295 for any.
+    pub for_uid: u32,
+    /// The GID whose members alone may open it, or 4294967295 for any.
+    pub for_gid: u32,
+    /// What it carries, at most 1,048,576 bytes.
+    pub payload: &'a [u8],
+}
+
+/// The content of which these bytes are the inner part, and None where they are that of none.
+pub(crate) fn read_inner(plain: &[u8]) -> Option<Inner<'_>>
+    ensures content { IfSome result (λ inner. IsContent (content_of inner)) }
+    ensures laid_out { IfSome result (λ inner. plain.now ≡ inner_part (content_of inner)) }
+    ensures none { IfNone result ((content : Content) → IsContent content
+        → plain.now ≢ inner_part content) }
+{
+    let (head, payload) = plain.split_first_chunk::<HEAD_SIZE>()?;
+    let length = number_at(head, 37) as usize;
+    if head[8] != ADDR_SIZE || length != payload.len() || length > PAYLOAD_LIMIT {
+        return None;
+    }
+    Some(Inner {
+        salt: bytes_at(head, 0),
+        addr: bytes_at(head, 9),
+        time: number_at(head, 13),
+        ttl: number_at(head, 17),
+        uid: number_at(head, 21),
+        gid: number_at(head, 25),
+        for_uid: number_at(head, 29),
+        for_gid: number_at(head, 33),
+        payload,
+    })
+}
+
+/// The big-endian number that stands at this place.
+fn number_at(head: &[u8; HEAD_SIZE], at: usize) -> u32
+    requires { at + 4 ≤ 41 }
+    ensures { result ≡ from_be_bytes w32 (take 4 (drop at head.now)) }
+{
+    u32::from_be_bytes(bytes_at(head, at))
+}
+
+/// The bytes that stand at this place.
+fn bytes_at<const N: usize>(head: &[u8; HEAD_SIZE], at: usize) -> [u8; N]
+    requires { at + N ≤ 41 }
+    ensures { result ≡ take N (drop at head.now) }
+{
+    let mut bytes = [0; N];
+    bytes.copy_from_slice(&head[at..at + N]);
+    bytes
+}
