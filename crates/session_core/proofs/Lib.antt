@@ -1,0 +1,7 @@
+pub mod EndLemmas
+pub mod KeptLemmas
+pub mod OneLemmas
+pub mod PrepareLemmas
+pub mod RequestLemmas
+pub mod SessionLemmas
+pub mod TurnLemmas

@@ -1,0 +1,28 @@
+use Rattle.std.proofs.Common.{◌≡◌, ℕ, ◌*◌, ◌≤◌, List}
+use Rattle.munge_types.specs.StandsFor.{StandsFor}
+use Rattle.munge_types.specs.declared.history.Event.{Event}
+use Rattle.cred_open.specs.Subkeys.{IsOf}
+use Rattle.session_core.specs.AllLive.{AllLive}
+use Rattle.session_core.specs.RunSoFar.{RunSoFar}
+use Rattle.session_core.proofs.run.session.Given as goal
+
+-- what was answered so far, for each key and base history, and that nothing has failed
+abbrev pub invariant-requests : goal.invariant-requests
+invariant-requests g l = record {
+  so_far : (key : List ℕ) (base : List Event) → IsOf l.world.subkeys key
+      → StandsFor (g.R.Replay.floor_moment l.initial.replay) (g.R.Replay.kept_pairs l.initial.replay) base
+      → RunSoFar key l.world.settings l.who base
+      (record { left = g.I.Source.left l.initial.input; taken = g.O.Sink.taken l.initial.out; readings = g.C.Clock.readings l.initial.clock; floor = g.R.Replay.floor_moment l.initial.replay; kept = g.R.Replay.kept_pairs l.initial.replay })
+      (record { left = g.I.Source.left l.input; taken = g.O.Sink.taken l.out; readings = g.C.Clock.readings l.clock; floor = g.R.Replay.floor_moment l.replay; kept = g.R.Replay.kept_pairs l.replay })
+      l.answered l.at;
+  live : (key : List ℕ) (base : List Event) → IsOf l.world.subkeys key
+      → StandsFor (g.R.Replay.floor_moment l.initial.replay) (g.R.Replay.kept_pairs l.initial.replay) base
+      → AllLive (g.R.Replay.floor_moment l.initial.replay) (g.R.Replay.kept_pairs l.initial.replay)
+      → AllLive (g.R.Replay.floor_moment l.replay) (g.R.Replay.kept_pairs l.replay);
+  begins_bound : l.at.begins ≤ 2097159 * l.answered;
+  entries_bound : l.at.entries ≤ 2 * l.answered;
+  reads_sound : g.I.Source.read_faults l.input ≡ g.I.Source.read_faults l.initial.input;
+  writes_sound : g.O.Sink.write_faults l.out ≡ g.O.Sink.write_faults l.initial.out;
+  clock_sound : g.C.Clock.clock_faults l.clock ≡ g.C.Clock.clock_faults l.initial.clock;
+  ends_stay : g.I.Source.ends l.initial.input ≤ g.I.Source.ends l.input;
+}

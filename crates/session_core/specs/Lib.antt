@@ -1,0 +1,10 @@
+pub mod AllLive
+pub mod ClientMessage
+pub mod DecodeReply
+pub mod DecodeRules
+pub mod Prepared
+pub mod Reading
+pub mod RunSoFar
+pub mod SessionRan
+pub mod SessionRun
+pub mod Turn

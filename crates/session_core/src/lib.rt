@@ -1,0 +1,18 @@
+//! One session: decode requests are read from a stream, and each is answered on another.
+#![tactic(auto)]
+
+mod end;
+pub mod laws;
+mod plain_replay;
+mod prepare;
+mod ready;
+mod reply;
+mod request;
+mod run;
+mod turn;
+mod world;
+
+pub use end::{HowEnded, SessionEnd};
+pub use plain_replay::PlainReplay;
+pub use run::session;
+pub use world::World;

@@ -1,0 +1,13 @@
+//! What a session opens credentials with.
+
+use cred_open::Subkeys;
+use munge_types::Settings;
+
+/// What stays the same over a session.
+#[derive(Drop)]
+pub struct World {
+    /// The subkeys of the key file.
+    pub subkeys: Subkeys,
+    /// The times that opening goes by.
+    pub settings: Settings,
+}
