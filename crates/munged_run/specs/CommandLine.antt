@@ -1,0 +1,39 @@
+-- What the words of a command line ask for, without the program's name.
+use Rattle.std.specs.Prelude.{ℕ, Bool, ◌&&◌, false, nat_lt, nat_le, bytes_eq, codes, if◌then◌else◌, List, [], ◌∷◌, length}
+use Rattle.std.specs.List.{list_all}
+use Rattle.std.specs.Str.Parse.{digits_value}
+use Rattle.std.specs.declared.option.Option.{Option}
+use Rattle.std.specs.declared.option.Option.TheVariants.{None, Some}
+use Rattle.munge_types.specs.declared.identity.Identity.{Identity}
+
+-- a session under the key of this file, for this caller
+pub record Command : Type 0 where
+  pub key_file : List ℕ
+  pub who : Identity
+
+-- an ASCII digit
+abbrev pub is_digit : ℕ → Bool
+is_digit byte = nat_le 48 byte && nat_le byte 57
+
+-- one or more digits, at most 20
+abbrev pub is_numeral : List ℕ → Bool
+is_numeral word = (nat_lt 0 (length word) && nat_le (length word) 20) && list_all is_digit word
+
+-- the largest UID and GID of a caller
+abbrev pub largest_id : ℕ
+largest_id = 4294967294
+
+-- the UID or GID that a word spells, if it spells one; zeros may lead
+abbrev pub id_of : List ℕ → Option ℕ
+id_of word = if is_numeral word && nat_le (digits_value 10 word) largest_id then Some (digits_value 10 word) else None
+
+-- the command of these parts; a caller of a session has no control
+abbrev pub command_with : (key_file : List ℕ) → (uid gid : Option ℕ) → Option Command
+command_with key_file (Some uid) (Some gid) = Some (record { key_file = key_file; who = record { uid = uid; gid = gid; control = false } })
+command_with key_file (Some uid) None = None
+command_with key_file None gid = None
+
+-- what the words ask for, if it is something: `session KEYFILE UID GID`
+abbrev pub command_of : List (List ℕ) → Option Command
+command_of (name ∷ key_file ∷ uid ∷ gid ∷ []) = if bytes_eq name (codes "session") then command_with key_file (id_of uid) (id_of gid) else None
+command_of words = None

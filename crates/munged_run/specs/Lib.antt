@@ -1,0 +1,6 @@
+pub mod CommandLine
+pub mod Exit
+pub mod KeyFile
+pub mod Program
+pub mod SessionCommand
+pub mod WholeRequests

@@ -1,0 +1,6 @@
+-- What a `SessionCommand` stands for.
+use Rattle.munged_run.specs.CommandLine.{Command}
+use Rattle.munged_run.specs.declared.command.SessionCommand.{SessionCommand}
+
+abbrev pub command_told : SessionCommand → Command
+command_told command = record { key_file = command.key_file.now; who = command.who }

@@ -1,0 +1,76 @@
+//! The words of a command line.
+
+ghost use Rattle.std.specs.Prelude.{◌≡◌, map, option_map};
+ghost use Rattle.std.specs.List.{list_all};
+ghost use Rattle.std.specs.String.{string_bytes};
+ghost use Rattle.munged_run.specs.CommandLine.{command_of, id_of, is_digit, is_numeral};
+ghost use Rattle.munged_run.specs.SessionCommand.{command_told};
+
+use munge_types::Identity;
+
+/// The most digits of a number.
+const MOST_DIGITS: usize = 20;
+
+/// The largest UID and GID of a caller.
+const LARGEST_ID: u32 = 4294967294;
+
+/// A session under the key of a file, for a caller.
+#[derive(Clone, Copy, Debug, PartialEq, Eq)]
+pub struct SessionCommand<'a> {
+    /// The path of the key file.
+    pub key_file: &'a str,
+    /// The caller, who has no control.
+    pub who: Identity,
+}
+
+/// What the words ask for, which do not hold the program's name: `session KEYFILE UID GID`.
+pub fn command_of_words(words: &[String]) -> Option<SessionCommand<'_>>
+    ensures { option_map command_told result ≡ command_of (map string_bytes words.now) }
+{
+    let [name, key_file, uid, gid] = words else {
+        return None;
+    };
+    if name.as_str() != "session" {
+        return None;
+    }
+    let who = Identity {
+        uid: id_of_word(uid.as_str())?,
+        gid: id_of_word(gid.as_str())?,
+        control: false,
+    };
+    Some(SessionCommand {
+        key_file: key_file.as_str(),
+        who,
+    })
+}
+
+/// The UID or GID that a word spells: one or more ASCII digits, at most 20, and at most 4294967294.
+/// Zeros may lead.
+fn id_of_word(word: &str) -> Option<u32>
+    ensures { result ≡ id_of word.now }
+{
+    if !is_number(word) {
+        return None;
+    }
+    let Ok(id) = word.parse::<u32>() else {
+        return None;
+    };
+    if id > LARGEST_ID {
+        return None;
+    }
+    Some(id)
+}
+
+/// The word is one or more ASCII digits, at most 20.
+fn is_number(word: &str) -> bool
+    ensures { result ≡ is_numeral word.now }
+{
+    !word.is_empty() && word.len() <= MOST_DIGITS && are_digits(word.as_bytes())
+}
+
+/// The bytes are ASCII digits, all of them.
+fn are_digits(bytes: &[u8]) -> bool
+    ensures { result ≡ list_all is_digit bytes.now }
+{
+    bytes.iter().all(|byte| b'0' <= *byte && *byte <= b'9')
+}

@@ -1,0 +1,8 @@
+//! Runs of the program over the outside in memory.
+
+mod credential;
+mod faults;
+mod fixture;
+mod requests;
+mod turns;
+mod words;

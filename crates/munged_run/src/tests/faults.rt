@@ -1,0 +1,59 @@
+//! Streams and clocks that fail, and input that is no request.
+
+use super::fixture::Run;
+use std::test::Fail;
+
+/// The reply to the empty text.
+const REPLY: &[u8] = b"\x4d\x01\x04\x00\x00\x00\x0a\x08\x01\xff\xff\xff\xff\xff\xff\xff\xff";
+
+#[test]
+fn input_that_is_no_request(rt: HostRuntime) -> Result<(), Fail> {
+    let table: [(&[u8], usize, u8); 8] = [
+        (b"", 0, 0),
+        (b"\x4d\x01\x03\x00\x00\x00\x00", 1, 0),
+        (b"\x4d\x01\x03\x00\x00\x00\x00\x4d\x01\x03\x00\x00", 1, 9),
+        (b"\x4d\x01\x03\x00\x00\x00\x02\x41", 0, 9),
+        (b"\x4e\x01\x03\x00\x00\x00\x00", 0, 9),
+        (b"\x4d\x02\x03\x00\x00\x00\x00", 0, 9),
+        (b"\x4d\x01\x05\x00\x00\x00\x00", 0, 9),
+        (b"\x4d\x01\x03\x00\x20\x00\x01", 0, 9),
+    ];
+    for (input, replies, status) in table {
+        let mut run = Run::new(rt.alloc())?;
+        run.readings = vec![in rt.alloc(); 1000, 1000]?;
+        run.input.extend_from_slice(input)?;
+        for _ in 0..replies {
+            run.output.extend_from_slice(REPLY)?;
+        }
+        run.assert_ends(&rt, status, "an input")?;
+    }
+    Ok(())
+}
+
+#[test]
+fn faults_of_the_outside(rt: HostRuntime) -> Result<(), Fail> {
+    // The failing read and the failing write, the readings, the replies and the status.
+    for (read, write, readings, replies, status) in [
+        (0, 0, 2, 2, 0),
+        (1, 0, 2, 0, 5),
+        (4, 0, 2, 1, 5),
+        (0, 1, 2, 0, 6),
+        (0, 2, 2, 1, 6),
+        (0, 0, 0, 0, 7),
+        (0, 0, 1, 1, 7),
+    ] {
+        let mut run = Run::new(rt.alloc())?;
+        run.readings = vec![in rt.alloc(); 1000; readings]?;
+        run.failing_read = read;
+        run.failing_write = write;
+        for _ in 0..2 {
+            run.input
+                .extend_from_slice(b"\x4d\x01\x03\x00\x00\x00\x00")?;
+        }
+        for _ in 0..replies {
+            run.output.extend_from_slice(REPLY)?;
+        }
+        run.assert_ends(&rt, status, "two requests")?;
+    }
+    Ok(())
+}

@@ -1,0 +1,110 @@
+//! A run of the program, made step by step from what is there before and what is wanted after.
+
+use crate::run::munged_run;
+use byte_io::{MemClock, MemFiles, MemSink, MemSource, NamedFile};
+use std::alloc::{AllocError, Global};
+use std::process::Abort;
+
+/// The status and the rule of a reply.
+pub(super) type Outcome = (u8, u8);
+
+/// A key file.
+pub(super) const KEY: [u8; 32] = [0; 32];
+
+/// The place of a reply whose request made no entry.
+pub(super) const NOWHERE: u64 = u64::MAX;
+
+/// What there is before a run, and what it is to write to its output.
+#[derive(Drop)]
+pub(super) struct Run {
+    alloc: Global,
+    /// The words, one a line.
+    pub(super) words: String,
+    /// The bytes of the file `key`.
+    pub(super) key: Vec<u8>,
+    pub(super) input: Vec<u8>,
+    /// The readings of the clock.
+    pub(super) readings: Vec<u32>,
+    /// The number of the read of the input that fails, or 0.
+    pub(super) failing_read: u32,
+    /// The number of the write to the output that fails, or 0.
+    pub(super) failing_write: u32,
+    /// The number of the read of a file that fails, or 0.
+    pub(super) failing_file: u32,
+    pub(super) output: Vec<u8>,
+}
+
+impl Run {
+    /// A session of the caller with UID and GID 7 under `KEY`, over an empty input and without a fault.
+    pub(super) fn new(alloc: Global) -> Result<Run, AllocError> {
+        Ok(Run {
+            alloc,
+            words: String::from_str(alloc, "session\nkey\n7\n7")?,
+            key: Vec::from_slice(alloc, &KEY)?,
+            input: Vec::new(alloc),
+            readings: Vec::new(alloc),
+            failing_read: 0,
+            failing_write: 0,
+            failing_file: 0,
+            output: Vec::new(alloc),
+        })
+    }
+
+    /// A decode request with this text at this moment, and the reply that is wanted.
+    pub(super) fn turn(
+        &mut self,
+        moment: u32,
+        text: &[u8],
+        outcome: Outcome,
+        place: u64,
+        content: &[u8],
+    ) -> Result<(), AllocError> {
+        self.readings.push(moment)?;
+        self.input.extend_from_slice(b"\x4d\x01\x03")?;
+        push_size(&mut self.input, text.len())?;
+        self.input.extend_from_slice(text)?;
+        self.output.extend_from_slice(b"\x4d\x01\x04")?;
+        push_size(&mut self.output, content.len().saturating_add(10))?;
+        self.output.extend_from_slice(&[outcome.0, outcome.1])?;
+        self.output.extend_from_slice(&place.to_be_bytes())?;
+        self.output.extend_from_slice(content)
+    }
+
+    /// Makes the run, and asserts its status and what it wrote; nothing goes to its error stream.
+    pub(super) fn assert_ends(
+        &self,
+        rt: &impl Abort,
+        status: u8,
+        row: &str,
+    ) -> Result<(), AllocError> {
+        let alloc = self.alloc;
+        let mut words = Vec::new(alloc);
+        for word in self.words.as_str().lines() {
+            words.push(String::from_str(alloc, word)?)?;
+        }
+        let key = NamedFile {
+            name: String::from_str(alloc, "key")?,
+            bytes: self.key.clone()?,
+        };
+        let fails = vec![in alloc; self.failing_file]?;
+        let mut files = MemFiles::new(vec![in alloc; key]?, fails);
+        let fails = vec![in alloc; self.failing_read]?;
+        let mut input = MemSource::new(self.input.clone()?, 5, fails);
+        let mut out = MemSink::new(alloc, vec![in alloc; self.failing_write]?);
+        let mut err = MemSink::new(alloc, Vec::new(alloc));
+        let mut clock = MemClock::new(self.readings.clone()?, Vec::new(alloc));
+        let ended = munged_run(
+            alloc, &words, &mut files, &mut input, &mut out, &mut err, &mut clock,
+        );
+        assert_eq!(rt; ended, status, "the status of {row}");
+        assert_eq!(rt; out.taken(), self.output.as_slice(), "what {row} wrote");
+        assert!(rt; err.taken().is_empty(), "the errors of {row}");
+        Ok(())
+    }
+}
+
+/// A size of four bytes.
+fn push_size(stream: &mut Vec<u8>, size: usize) -> Result<(), AllocError> {
+    let size = u32::try_from(size).unwrap_or(u32::MAX);
+    stream.extend_from_slice(&size.to_be_bytes())
+}

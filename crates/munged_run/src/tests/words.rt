@@ -1,0 +1,56 @@
+//! The words of the command line, and the key file.
+
+use super::fixture::Run;
+use std::test::Fail;
+
+#[test]
+fn words_of_the_command_line(rt: HostRuntime) -> Result<(), Fail> {
+    let table = [
+        ("", 1),
+        ("session", 1),
+        ("session\nkey\n7", 1),
+        ("session\nkey\n7\n7\nseed", 1),
+        ("sessions\nkey\n7\n7", 1),
+        ("Session\nkey\n7\n7", 1),
+        ("\nkey\n7\n7", 1),
+        ("check\nkey\n7\n7", 1),
+        ("check\nkey", 1),
+        ("session\nkey\n7\n4294967295", 1),
+        ("session\nkey\n4294967295\n7", 1),
+        ("session\nkey\n000000000000000000007\n7", 1),
+        ("session\nkey\n7\n99999999999999999999", 1),
+        ("session\nkey\n-1\n7", 1),
+        ("session\nkey\n7\n+7", 1),
+        ("session\nkey\n\n7", 1),
+        ("session\nkey\n7\n7 ", 1),
+        ("session\nkey\n0\n4294967294", 0),
+        ("session\nkey\n00000000004294967294\n007", 0),
+        ("session\nother\n7\n7", 2),
+    ];
+    for (words, status) in table {
+        let mut run = Run::new(rt.alloc())?;
+        run.words = String::from_str(rt.alloc(), words)?;
+        run.assert_ends(&rt, status, words)?;
+    }
+    Ok(())
+}
+
+#[test]
+fn key_files(rt: HostRuntime) -> Result<(), Fail> {
+    for (size, fails, status) in [
+        (0, 0, 3),
+        (31, 0, 3),
+        (32, 0, 0),
+        (1024, 0, 0),
+        (1025, 0, 3),
+        (1030, 0, 3),
+        (32, 1, 2),
+        (31, 1, 2),
+    ] {
+        let mut run = Run::new(rt.alloc())?;
+        run.key = vec![in rt.alloc(); 0xab; size]?;
+        run.failing_file = fails;
+        run.assert_ends(&rt, status, "a key file")?;
+    }
+    Ok(())
+}
