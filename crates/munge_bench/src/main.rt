@@ -1,0 +1,24 @@
+//! Times what munged is made of, and prints a line for each measurement.
+//!
+//! The words on the command line say what is timed; without words nothing is, and nothing is
+//! printed.
+#![tactic(auto)]
+
+mod aes;
+mod rate;
+
+use std::process::ExitCode;
+use std::{env, io};
+
+fn main(rt: HostRuntime) -> io::Result<ExitCode> {
+    for word in env::args(&rt)?.skip(1) {
+        match word.as_str() {
+            "aes" => aes::run(&rt)?,
+            other => {
+                eprintln!(rt; "munge_bench: {other}: nothing of that name is timed")?;
+                return Ok(ExitCode::from(2));
+            }
+        }
+    }
+    Ok(ExitCode::SUCCESS)
+}
