@@ -1,10 +1,6 @@
 pub mod Bodies
 pub mod Differences
-pub mod Framing
-pub mod InnerFields
-pub mod InnerReading
 pub mod Keyed
 pub mod Once
 pub mod OpensOrRefuses
 pub mod Parts
-pub mod Spelling

@@ -5,14 +5,13 @@ use Rattle.std.specs.declared.option.Option.TheVariants.{None, Some}
 use Rattle.munge_types.specs.declared.algorithms.Cipher.{Cipher}
 use Rattle.munge_types.specs.declared.algorithms.MacKind.{MacKind}
 use Rattle.munge_types.specs.declared.status.Status.{Status}
+use Rattle.cred_armor.specs.CredentialText.{Spells}
+use Rattle.cred_armor.proofs.Spelling.{spells_unique}
 use Rattle.cred_open.specs.Body.{IsBody}
 use Rattle.cred_open.specs.Credential.{Credential}
-use Rattle.cred_open.specs.CredentialText.{Spells}
-use Rattle.cred_open.specs.InnerPart.{Content, inner_part}
+use Rattle.cred_inner.specs.InnerPart.{Content, IsContent, inner_part}
 use Rattle.cred_open.specs.OpeningRules.{first_broken, outer_rules, Opens, Refuses}
 use Rattle.cred_open.proofs.Bodies.{body_once}
-use Rattle.cred_open.proofs.InnerFields.{inner_part_once}
-use Rattle.cred_open.proofs.Spelling.{spells_unique}
 
 pub record SameRefusal (r q : ℕ) (s t : Status) : Type 0 where
   pub rule : r ≡ q
@@ -81,11 +80,13 @@ made_of : (c : Credential) → c ≡ made c.cipher c.kind c.mac c.content
 unfolding made
 made_of c = refl
 
-pub opened_once : (key text : List ℕ) (a b : Credential) → Opens key text a → Opens key text b → a ≡ b
-opened_once key text a b first second =
+-- given that an inner part is that of one content at most
+pub opened_once : ((a b : Content) → IsContent a → IsContent b → inner_part a ≡ inner_part b → a ≡ b)
+    → (key text : List ℕ) (a b : Credential) → Opens key text a → Opens key text b → a ≡ b
+opened_once content_one key text a b first second =
     let same = body_once key a.cipher b.cipher a.kind b.kind first.vector second.vector (inner_part a.content) (inner_part b.content) second.body
     (opened_body key text second.body a first second.spelled) second.sealed in
-    let content : a.content ≡ b.content = inner_part_once a.content b.content first.fits second.fits same.inner in
+    let content : a.content ≡ b.content = content_one a.content b.content first.fits second.fits same.inner in
     let cipher = same.cipher in
     let kind = same.kind in
     let vector = same.vector in

@@ -8,10 +8,10 @@ use Rattle.munge_types.specs.declared.algorithms.Cipher.TheVariants as ciphers
 use Rattle.munge_types.specs.declared.algorithms.MacKind.{MacKind}
 use Rattle.munge_types.specs.declared.algorithms.MacKind.TheVariants.{Sha256}
 use Rattle.munge_types.specs.declared.status.Status.TheVariants.{BadCredential, Invalid}
+use Rattle.cred_armor.specs.CredentialText.{Spells}
 use Rattle.cred_open.specs.Body.{mac_of}
-use Rattle.cred_open.specs.CredentialText.{Spells}
 use Rattle.cred_open.specs.Hmac.{hmac}
-use Rattle.cred_open.specs.InnerPart.{Content, IsContent, inner_part, numbers}
+use Rattle.cred_inner.specs.InnerPart.{Content, IsContent, inner_part, numbers}
 use Rattle.cred_open.specs.OpeningRules.{first_broken, outer_rules, Opens, Refuses}
 use Rattle.cred_open.specs.OuterPart.{outer_part}
 use Rattle.cred_open.specs.Subkeys.{mac_subkey}

@@ -3,7 +3,7 @@ use Rattle.std.specs.Prelude.{ℕ, ◌+◌, min, List}
 use Rattle.munge_types.specs.declared.algorithms.Cipher.{Cipher}
 use Rattle.munge_types.specs.declared.algorithms.MacKind.{MacKind}
 use Rattle.munge_types.specs.declared.pair.Pair.{Pair}
-use Rattle.cred_open.specs.InnerPart.{Content}
+use Rattle.cred_inner.specs.InnerPart.{Content}
 
 -- what it says, its MAC, and the algorithms that it was sealed by
 pub record Credential : Type 0 where

@@ -1,12 +1,8 @@
 pub mod Absorbed
 pub mod Body
 pub mod Credential
-pub mod CredentialText
 pub mod Hmac
-pub mod Inner
-pub mod InnerPart
 pub mod OpenRefused
 pub mod OpeningRules
 pub mod OuterPart
 pub mod Subkeys
-pub mod Trimming

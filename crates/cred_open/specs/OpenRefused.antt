@@ -1,6 +1,6 @@
 -- What a refusal to open a credential says of its text.
 use Rattle.std.specs.Prelude.{ℕ, List}
-use Rattle.cred_open.specs.CredentialText.{IsFramed}
+use Rattle.cred_armor.specs.CredentialText.{IsFramed}
 use Rattle.cred_open.specs.OpeningRules.{Refuses}
 use Rattle.cred_open.specs.declared.opening.OpenRefused.{OpenRefused}
 use Rattle.cred_open.specs.declared.opening.OpenRefused.TheVariants.{Failed, NoMemory}

@@ -9,10 +9,10 @@ use Rattle.munge_types.specs.declared.algorithms.MacKind.{MacKind}
 use Rattle.munge_types.specs.declared.algorithms.MacKind.TheVariants.{Sha256}
 use Rattle.munge_types.specs.declared.status.Status.{Status}
 use Rattle.munge_types.specs.declared.status.Status.TheVariants.{BadCredential, BadVersion, BadCipher, BadMac, BadCompression, BadRealm, Invalid}
+use Rattle.cred_armor.specs.CredentialText.{Spells}
 use Rattle.cred_open.specs.Body.{IsBody, mac_of}
 use Rattle.cred_open.specs.Credential.{Credential}
-use Rattle.cred_open.specs.CredentialText.{Spells}
-use Rattle.cred_open.specs.InnerPart.{Content, IsContent, inner_part}
+use Rattle.cred_inner.specs.InnerPart.{Content, IsContent, inner_part}
 
 -- no status where the test holds
 abbrev pub unless : Bool → Status → Option Status

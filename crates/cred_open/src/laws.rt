@@ -7,15 +7,9 @@ ghost use Rattle.munge_types.specs.declared.algorithms.MacKind.{MacKind};
 ghost use Rattle.munge_types.specs.declared.status.Status.{Status};
 ghost use Rattle.cred_open.specs.Body.{IsBody};
 ghost use Rattle.cred_open.specs.Credential.{Credential};
-ghost use Rattle.cred_open.specs.CredentialText.{Spells};
-ghost use Rattle.cred_open.specs.InnerPart.{Content, IsContent, inner_part};
 ghost use Rattle.cred_open.specs.OpeningRules.{Opens, Refuses};
 
-/// A text spells one body at most.
-pub fn text_spells_one_body()
-    ensures { (text first second : List ℕ) → Spells text first → Spells text second
-        → first ≡ second }
-{}
+use cred_inner::laws::inner_part_has_one_content;
 
 /// Under a key, a body has one inner part at most, one cipher and one MAC.
 pub fn body_has_one_inner_part()
@@ -31,12 +25,6 @@ pub fn body_has_one_inner_part()
         (cipher cipher' : Cipher) (kind kind' : MacKind)
         → IsBody key cipher kind vector inner body → IsBody key cipher' kind' vector' inner' body
         → kind ≡ kind' }
-{}
-
-/// An inner part is that of one content at most.
-pub fn inner_part_has_one_content()
-    ensures { (first second : Content) → IsContent first → IsContent second
-        → inner_part first ≡ inner_part second → first ≡ second }
 {}
 
 /// A text breaks one rule first, with one status.
@@ -57,4 +45,6 @@ pub fn refused_is_not_opened()
 pub fn credential_is_one()
     ensures { (key text : List ℕ) (first second : Credential)
         → Opens key text first → Opens key text second → first ≡ second }
-{}
+{
+    inner_part_has_one_content();
+}

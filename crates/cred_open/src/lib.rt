@@ -2,9 +2,7 @@
 //! remembers.
 #![tactic(auto)]
 
-mod armor;
 mod hmac;
-mod inner;
 pub mod laws;
 mod opened;
 mod opening;
@@ -13,7 +11,6 @@ mod subkeys;
 #[cfg(test)]
 mod tests;
 
-pub use inner::Inner;
 pub use opened::Opened;
 pub use opening::{OpenRefused, open_text};
 pub use outer::OuterRefused;

@@ -2,10 +2,10 @@
 
 ghost use Rattle.std.specs.Prelude.{◌≡◌, ◌≤◌, length};
 ghost use Rattle.cred_open.specs.Credential.{expiry_of};
-ghost use Rattle.cred_open.specs.Inner.{content_of};
-ghost use Rattle.cred_open.specs.InnerPart.{payload_limit};
+ghost use Rattle.cred_inner.specs.Inner.{content_of};
+ghost use Rattle.cred_inner.specs.InnerPart.{payload_limit};
 
-use crate::Inner;
+use cred_inner::Inner;
 use munge_types::{Cipher, MacBytes, MacKind, Pair};
 use std::marker::Model;
 
@@ -25,9 +25,9 @@ pub struct Opened {
 
 impl Model for Opened {
     ghost use Rattle.std.specs.Prelude.{◌+◌, ◌≤◌, drop, length};
-    ghost use Rattle.cred_open.specs.InnerPart.{payload_limit};
+    ghost use Rattle.cred_inner.specs.InnerPart.{payload_limit};
     ghost use Rattle.cred_open.specs.Credential.{Credential};
-    ghost use Rattle.cred_open.specs.Inner.{content_of};
+    ghost use Rattle.cred_inner.specs.Inner.{content_of};
 
     ghost Value = { Credential };
 

@@ -2,17 +2,17 @@
 
 ghost use Rattle.std.specs.Prelude.{◌≡◌, ◌++◌, ℕ, List, IfOk, IfErr};
 ghost use Rattle.munge_types.specs.declared.algorithms.MacKind.TheVariants.{Sha256};
-ghost use Rattle.cred_open.specs.CredentialText.{Spells};
+ghost use Rattle.cred_armor.specs.CredentialText.{Spells};
 ghost use Rattle.cred_open.specs.Hmac.{hmac};
 ghost use Rattle.cred_open.specs.OpeningRules.{Opens, Refuses};
 ghost use Rattle.cred_open.specs.OpenRefused.{IsRefusal, WantsMemoryFor};
 ghost use Rattle.cred_open.specs.Subkeys.{IsOf};
 
-use crate::armor::{ArmorRefused, unarmor};
 use crate::hmac::{Hmac, equal};
-use crate::inner::{Inner, read_inner};
 use crate::outer::{Outer, read_outer};
 use crate::{Opened, OuterRefused, Subkeys};
+use cred_armor::{ArmorRefused, unarmor};
+use cred_inner::{Inner, read_inner};
 use munge_types::{MacBytes, Status};
 use std::alloc::Global;
 use std::error::Error;

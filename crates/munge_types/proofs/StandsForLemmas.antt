@@ -1,7 +1,7 @@
 -- A state that stands for a history answers as the history does, and goes on standing for it over each
 -- event and over any order of the kept pairs.
 use Rattle.std.proofs.Common.{◌≡◌, ℕ, max, ◌≤◌, nat_lt, Bool, true, false, ◌&&◌, ◌||◌, cond, List, [], ◌∷◌, ◌++◌, ap, sym, ◌∙◌, refl, arith}
-use Rattle.std.proofs.lemmas.Bool.{ltb-false, le-leb}
+use Rattle.std.proofs.lemmas.Bool.{ltb-false}
 use Rattle.std.proofs.lemmas.List.Folds.{list_any-append}
 use Rattle.std.proofs.lemmas.List.Sorted.{list_any-IsPermutation}
 use Rattle.std.proofs.lemmas.Map.Keys.{IsDistinct-IsPermutation}
@@ -13,7 +13,6 @@ use Rattle.munge_types.proofs.Distinct.{both_true, IsDistinct-filter}
 use Rattle.munge_types.proofs.HistoryLemmas.{floor-admit, floor-purge, floor-idle, accepted-admit, accepted-purge, accepted-idle, IsDistinct-with_accepted}
 use Rattle.munge_types.proofs.PairLemmas.{pair_eq-equiv, pair_eq-Decides}
 use Rattle.munge_types.specs.History.{verdict_among, with_accepted, accepted, verdict}
-use Rattle.munge_types.specs.Live.{is_live}
 use Rattle.munge_types.specs.Pair.{pair_eq}
 use Rattle.munge_types.specs.StandsFor.{IsAmong, StandsFor}
 use Rattle.munge_types.specs.declared.pair.Pair.{Pair}
@@ -80,26 +79,26 @@ StandsFor-admit floor kept history pass pair moment stands = record {
   once = IsDistinct-with_accepted _ floor kept pair moment (verdict_among-kept floor kept history pair moment stands) stands.once;
 }
 
--- whether a live pair is among those that are live
-pub IsAmong-live : (floor : ℕ) (pairs : List Pair) (pair : Pair)
-    → list_any (pair_eq pair) (filter (is_live floor) pairs) ≡ (is_live floor pair && list_any (pair_eq pair) pairs)
-IsAmong-live floor pairs pair =
-    any-filter_same (pair_eq pair) (is_live floor) (is_live floor pair)
-    (λ other same. ap (is_live floor) (sym ((pair_eq-Decides pair other).0 same))) pairs
+-- whether a pair is among those that pass a test
+pub IsAmong-filter : (test : Pair → Bool) (pairs : List Pair) (pair : Pair)
+    → list_any (pair_eq pair) (filter test pairs) ≡ (test pair && list_any (pair_eq pair) pairs)
+IsAmong-filter test pairs pair =
+    any-filter_same (pair_eq pair) test (test pair) (λ other same. ap test (sym ((pair_eq-Decides pair other).0 same))) pairs
 
--- over a purge
-pub StandsFor-purge : (floor : ℕ) (kept : List Pair) (history : List Event) (pass moment : ℕ)
+-- over a purge that keeps what passes a test, as each pair that has not fallen below the new floor does
+pub StandsFor-purge : (test : Pair → Bool) (floor : ℕ) (kept : List Pair) (history : List Event) (pass moment : ℕ)
+    → ((pair : Pair) → max moment floor ≤ pair.expiry → test pair ≡ true)
     → StandsFor floor kept history
-    → StandsFor (max moment floor) (filter (is_live (max moment floor)) kept) (history ++ Purge pass moment ∷ [])
-StandsFor-purge floor kept history pass moment stands = record {
+    → StandsFor (max moment floor) (filter test kept) (history ++ Purge pass moment ∷ [])
+StandsFor-purge test floor kept history pass moment spares stands = record {
   same_floor = ap (max moment) stands.same_floor ∙ sym (floor-purge history pass moment);
   keeps = λ pair among above.
       let was : IsAmong (accepted history) pair = rw (accepted-purge history pass moment) at among in
       let still : IsAmong kept pair = stands.keeps pair was (omega arith) in
-      IsAmong-live (max moment floor) kept pair ∙ ap (λ live. live && list_any (pair_eq pair) kept) (le-leb _ _ above) ∙ still;
+      IsAmong-filter test kept pair ∙ ap (λ passes. passes && list_any (pair_eq pair) kept) (spares pair above) ∙ still;
   was_accepted = λ pair among. rw (accepted-purge history pass moment)
-      (stands.was_accepted pair (second_so (is_live (max moment floor) pair) _ (sym (IsAmong-live (max moment floor) kept pair) ∙ among)));
-  once = IsDistinct-filter pair_eq (is_live (max moment floor)) kept stands.once;
+      (stands.was_accepted pair (second_so (test pair) _ (sym (IsAmong-filter test kept pair) ∙ among)));
+  once = IsDistinct-filter pair_eq test kept stands.once;
 }
 
 -- over an idle event
@@ -135,10 +134,11 @@ stands_after_admit floor kept new history pass pair moment permutation stands =
     (rw (verdict_among-kept floor kept history pair moment stands) at permutation)
     (StandsFor-admit floor kept history pass pair moment stands)
 
--- it kept, in some order, the pairs that are live at the new floor
-pub stands_after_purge : (floor : ℕ) (kept new : List Pair) (history : List Event) (pass moment : ℕ)
-    → IsPermutation (filter (is_live (max moment floor)) kept) new
+-- it kept, in some order, what passes a test, as each pair that has not fallen below the new floor does
+pub stands_after_filter : (test : Pair → Bool) (floor : ℕ) (kept new : List Pair) (history : List Event) (pass moment : ℕ)
+    → ((pair : Pair) → max moment floor ≤ pair.expiry → test pair ≡ true)
+    → IsPermutation (filter test kept) new
     → StandsFor floor kept history → StandsFor (max moment floor) new (history ++ Purge pass moment ∷ [])
-stands_after_purge floor kept new history pass moment permutation stands =
+stands_after_filter test floor kept new history pass moment spares permutation stands =
     StandsFor-IsPermutation (max moment floor) _ new (history ++ Purge pass moment ∷ []) permutation
-    (StandsFor-purge floor kept history pass moment stands)
+    (StandsFor-purge test floor kept history pass moment spares stands)

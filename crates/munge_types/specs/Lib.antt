@@ -4,5 +4,7 @@ pub mod History
 pub mod Live
 pub mod MacBytes
 pub mod Pair
+pub mod Purge
+pub mod Room
 pub mod StandsFor
 pub mod Status

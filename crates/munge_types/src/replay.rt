@@ -1,9 +1,10 @@
 //! What every replay structure promises.
 
-ghost use Rattle.std.specs.Prelude.{◌≡◌, ℕ, max, ◌+◌, ◌++◌, ◌∷◌, [], List, filter, length, IfOk, OnErr};
+ghost use Rattle.std.specs.Prelude.{◌≡◌, ℕ, max, min, ◌+◌, ◌++◌, ◌∷◌, [], List, filter, length, IfOk, OnErr};
 ghost use Rattle.std.specs.List.Sorted.{IsPermutation};
 ghost use Rattle.munge_types.specs.History.{verdict, with_accepted};
 ghost use Rattle.munge_types.specs.Live.{is_live, live};
+ghost use Rattle.munge_types.specs.Purge.{expiries_below, purged};
 ghost use Rattle.munge_types.specs.StandsFor.{StandsFor};
 ghost use Rattle.munge_types.specs.declared.history.Event.{Event};
 ghost use Rattle.munge_types.specs.declared.history.Event.TheVariants.{Admit, Purge};
@@ -43,14 +44,16 @@ pub trait Replay: Send {
         ensures same_floor { floor_moment self.new ≡ floor_moment self.old }
         ensures same_pairs { OnErr result (kept_pairs self.new ≡ kept_pairs self.old) };
 
-    /// Raises the floor to the moment, where it is lower, and drops the pairs whose expiry is below
-    /// the new floor. It takes no memory. For now `slice` has to be `u32::MAX`, which bounds nothing.
+    /// Raises the floor to the moment, where it is lower, and drops the pairs of the `slice` least
+    /// expiries below the new floor, of all where there are no more. It takes no memory. A slice of
+    /// `u32::MAX` bounds nothing.
     fn purge(&mut self, moment: u32, slice: u32) -> Purged
-        requires { slice ≡ u32.MAX }
         ensures floor { floor_moment self.new ≡ max moment (floor_moment self.old) }
-        ensures kept { IsPermutation (filter (is_live (floor_moment self.new)) (kept_pairs self.old)) (kept_pairs self.new) }
+        ensures kept { IsPermutation (purged (floor_moment self.new) slice (kept_pairs self.old)) (kept_pairs self.new) }
         ensures dropped { result.dropped + length (kept_pairs self.new) ≡ length (kept_pairs self.old) }
-        ensures left { result.left ≡ 0 }
+        ensures left { let below = expiries_below (floor_moment self.new) (kept_pairs self.old) in result.left + min below slice ≡ below }
+        ensures whole { slice ≡ u32.MAX → result.left ≡ 0 }
+        ensures only_live { result.left ≡ 0 → IsPermutation (filter (is_live (floor_moment self.new)) (kept_pairs self.old)) (kept_pairs self.new) }
 
         ensures stands { (history : List Event) (pass : ℕ) → StandsFor (floor_moment self.old) (kept_pairs self.old) history
             → StandsFor (floor_moment self.new) (kept_pairs self.new) (history ++ Purge pass moment ∷ []) }

@@ -107,3 +107,16 @@ fn pairs_are_ordered_by_expiry_first(rt: HostRuntime) -> Result<(), Fail> {
     assert_eq!(rt; pair(5, 7).cmp(&pair(5, 8)), Ordering::Less);
     Ok(())
 }
+
+#[test]
+fn a_room_takes_what_it_was_made_for(rt: HostRuntime) -> Result<(), Fail> {
+    let mut room = Room::new(rt.alloc(), 5)?;
+    room.put(b"MUN");
+    room.put(b"");
+    room.put(b"GE");
+    let bytes = room.finish();
+    assert_eq!(rt; bytes.as_slice(), b"MUNGE".as_slice());
+    let empty = Room::new(rt.alloc(), 0)?.finish();
+    assert_eq!(rt; empty.len(), 0);
+    Ok(())
+}

@@ -14,7 +14,8 @@ use crate::exit::Exit;
 use crate::key_file::read_key;
 use byte_io::{Clock, Files, Sink, Source};
 use munge_types::Settings;
-use session_core::{PlainReplay, World, session};
+use replay_table::PlainReplay;
+use session_core::{World, session};
 use std::alloc::Global;
 
 /// Does what the words ask for, which do not hold the program's name, and returns the status of the

@@ -14,7 +14,7 @@ use Rattle.munge_types.specs.declared.settings.Settings.{Settings}
 use Rattle.munge_types.specs.declared.status.Status.{Status}
 use Rattle.munge_types.specs.declared.status.Status.TheVariants.{Success}
 use Rattle.cred_open.specs.Credential.{Credential, pair_of}
-use Rattle.cred_open.specs.InnerPart.{Content, payload_limit}
+use Rattle.cred_inner.specs.InnerPart.{Content, payload_limit}
 use Rattle.session_core.specs.DecodeRules.{Finding, Refused, Ready, verdict_rule, verdict_status}
 
 -- the place of a reply whose request was not looked up in the history

@@ -10,7 +10,7 @@ use Rattle.munge_types.specs.declared.settings.Settings.{Settings}
 use Rattle.munge_types.specs.declared.status.Status.{Status}
 use Rattle.munge_types.specs.declared.status.Status.TheVariants as status
 use Rattle.cred_open.specs.Credential.{Credential}
-use Rattle.cred_open.specs.InnerPart.{Content, any}
+use Rattle.cred_inner.specs.InnerPart.{Content, any}
 use Rattle.cred_open.specs.OpeningRules.{Refuses, Opens, unless, first_broken}
 
 -- 10: anyone may open it, or this caller's UID

@@ -3,7 +3,6 @@
 
 mod end;
 pub mod laws;
-mod plain_replay;
 mod prepare;
 mod ready;
 mod reply;
@@ -13,6 +12,5 @@ mod turn;
 mod world;
 
 pub use end::{HowEnded, SessionEnd};
-pub use plain_replay::PlainReplay;
 pub use run::session;
 pub use world::World;

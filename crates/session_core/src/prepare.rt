@@ -1,7 +1,7 @@
 //! What a text comes to before the history is asked.
 
 ghost use Rattle.std.specs.Prelude.{◌≡◌, ℕ, [], List, IfOk};
-ghost use Rattle.cred_open.specs.Inner.{content_of};
+ghost use Rattle.cred_inner.specs.Inner.{content_of};
 ghost use Rattle.cred_open.specs.OpeningRules.{first_broken};
 ghost use Rattle.cred_open.specs.Subkeys.{IsOf};
 ghost use Rattle.session_core.specs.DecodeReply.{content_bytes, decode_reply, nowhere};
@@ -11,7 +11,8 @@ ghost use Rattle.session_core.specs.Prepared.{IsJudged, IsPrepared, line_of};
 use crate::World;
 use crate::ready::Ready;
 use crate::reply::{NOWHERE, refusal, showing};
-use cred_open::{Inner, OpenRefused, Opened, OuterRefused, open_text};
+use cred_inner::Inner;
+use cred_open::{OpenRefused, Opened, OuterRefused, open_text};
 use munge_types::{Identity, NoMemory, Settings, Status};
 use std::alloc::Global;
 

@@ -2,7 +2,7 @@
 
 ghost use Rattle.std.specs.Prelude.{◌≡◌, ℕ, ◌+◌, ◌≤◌, [], ◌++◌, List, IfOk, OnOk, length};
 ghost use Rattle.munge_types.specs.BigEndian.{be32};
-ghost use Rattle.cred_open.specs.Inner.{content_of};
+ghost use Rattle.cred_inner.specs.Inner.{content_of};
 ghost use Rattle.session_core.specs.DecodeReply.{
   content_limit,
   decode_reply,
@@ -13,7 +13,8 @@ ghost use Rattle.session_core.specs.DecodeReply.{
   shown_numbers,
 };
 
-use cred_open::{Inner, Opened};
+use cred_inner::Inner;
+use cred_open::Opened;
 use munge_types::{Cipher, MacKind, NoMemory, Status};
 use std::alloc::Global;
 

@@ -4,7 +4,7 @@ use Rattle.std.proofs.lemmas.Bool.{both_ways}
 use Rattle.cred_open.specs.OpeningRules.{Refuses}
 use Rattle.cred_open.proofs.Parts.{EndsWith}
 use Rattle.cred_open.proofs.OpensOrRefuses.{IsTaken, taken, refuses_unsealed, refuses_empty, opens_kept, body_ends}
-use Rattle.cred_open.specs.Inner.{content_of}
+use Rattle.cred_inner.specs.Inner.{content_of}
 use Rattle.cred_open.proofs.opening.open_body.Goals as goal
 
 pub returns-in_err-outer-clause-refused : goal.returns-in_err-outer-clause-refused

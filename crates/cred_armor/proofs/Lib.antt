@@ -1,0 +1,3 @@
+pub mod Framing
+pub mod Sizes
+pub mod Spelling

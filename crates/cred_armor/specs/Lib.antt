@@ -1,0 +1,2 @@
+pub mod CredentialText
+pub mod Trimming

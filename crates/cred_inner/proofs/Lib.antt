@@ -1,0 +1,4 @@
+pub mod InnerFields
+pub mod InnerReading
+pub mod InnerWriting
+pub mod Parts

@@ -1,5 +1,0 @@
-use Rattle.cred_open.proofs.Spelling.{spells_unique}
-use Rattle.cred_open.proofs.laws.text_spells_one_body.Goals as goal
-
-pub returns : goal.returns
-returns c = spells_unique
