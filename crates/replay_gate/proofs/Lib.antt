@@ -1,0 +1,11 @@
+pub mod Totals
+pub mod Histories
+pub mod Replaced
+pub mod Stages
+pub mod Homes
+pub mod Stepping
+pub mod Turns
+pub mod Meeting
+pub mod Ends
+pub mod Seats
+pub mod Twice

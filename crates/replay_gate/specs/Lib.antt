@@ -1,0 +1,9 @@
+pub mod Entries
+pub mod Steps
+pub mod Rule
+pub mod Passes
+pub mod Calls
+pub mod Turns
+pub mod Refused
+pub mod RefusedText
+pub mod Purges

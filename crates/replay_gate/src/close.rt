@@ -1,0 +1,48 @@
+//! Closing a gate.
+
+ghost use Rattle.std.specs.Prelude.{◌≡◌, ℕ, ◌+◌, ◌≤◌, true, [], ◌∷◌, length};
+ghost use Rattle.std.specs.List.{IsDistinct};
+ghost use Rattle.munge_types.specs.History.{accepted};
+ghost use Rattle.munge_types.specs.Pair.{pair_eq};
+ghost use Rattle.munge_types.specs.StandsFor.{StandsFor};
+ghost use Rattle.replay_gate.specs.Entries.{is_of, any_by};
+
+use crate::gate::Gate;
+use crate::pass::Pass;
+use munge_types::Replay;
+
+/// What a gate leaves.
+#[derive(Drop)]
+pub struct Closed<R: Replay + Drop> {
+    /// The state, which stands for the gate's whole history.
+    pub state: R,
+    /// How many entries that history has.
+    pub length: u64,
+}
+
+impl<R: Replay + Drop> Gate<R> {
+    /// Closes the gate, with a pass that stands for all of them. What the pass has seen is the whole
+    /// history.
+    pub fn close(self, pass: Pass) -> Closed<R>
+        requires gate { pass.gate ≡ self }
+        requires whole { pass.share ≡ self.passes }
+        ensures length { result.length ≡ length pass.seen }
+        ensures stands { StandsFor (R.floor_moment result.state) (R.kept_pairs result.state) pass.seen }
+        ensures made { (number : ℕ) → any_by (number ∷ []) pass.seen ≡ true → is_of pass.numbers number ≡ true }
+        ensures once { IsDistinct pair_eq (accepted pass.seen) }
+        ensures highest { pass.highest ≤ self.start + length pass.seen }
+    {
+        let Pass {
+            badge,
+            number: _,
+            spare: _,
+            share: _,
+            length,
+        } = pass;
+        let Gate { table, origin: _ } = self;
+        let mut closed = table.close_with(badge.into_seat());
+        let state = closed.take(0);
+        closed.free();
+        Closed { state, length }
+    }
+}
