@@ -5,6 +5,10 @@
 #![tactic(auto)]
 
 mod aes;
+mod caller;
+mod gate;
+mod lane;
+mod pace;
 mod rate;
 
 use std::process::ExitCode;
@@ -14,6 +18,7 @@ fn main(rt: HostRuntime) -> io::Result<ExitCode> {
     for word in env::args(&rt)?.skip(1) {
         match word.as_str() {
             "aes" => aes::run(&rt)?,
+            "gate" => gate::run(&rt, rt.alloc())?,
             other => {
                 eprintln!(rt; "munge_bench: {other}: nothing of that name is timed")?;
                 return Ok(ExitCode::from(2));
@@ -22,3 +27,6 @@ fn main(rt: HostRuntime) -> io::Result<ExitCode> {
     }
     Ok(ExitCode::SUCCESS)
 }
+
+#[cfg(test)]
+mod tests;
