@@ -1,0 +1,3 @@
+pub mod KeyRefused
+pub mod Prepared
+pub mod Subkeys
