@@ -1,2 +1,3 @@
 pub mod CredentialText
+pub mod RefusedText
 pub mod Trimming

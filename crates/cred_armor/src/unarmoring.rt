@@ -1,7 +1,8 @@
 //! From a text to the body that it spells.
 
-ghost use Rattle.std.specs.Prelude.{◌≡◌, ℕ, List, IfSome, IfNone, IfOk, IsErrOf, MatchResult};
+ghost use Rattle.std.specs.Prelude.{◌≡◌, ℕ, List, Some, IfSome, IfNone, IfOk, IsErrOf, MatchResult};
 ghost use Rattle.cred_armor.specs.CredentialText.{is_space, Frames, IsFramed, Spells};
+ghost use Rattle.cred_armor.specs.RefusedText.{refused_text};
 ghost use Rattle.cred_armor.specs.Trimming.{trim_front, trim_back};
 
 use crate::marks::{CLOSING, OPENING};
@@ -21,6 +22,8 @@ pub enum ArmorRefused {
 }
 
 impl fmt::Display for ArmorRefused {
+    ghost output = { λ refused. Some (refused_text refused) };
+
     fn fmt<W: fmt::Write>(&self, f: &mut fmt::Formatter<W>) -> fmt::Result {
         match self {
             ArmorRefused::NotArmor => write!(f, "not the armour of a body"),
