@@ -1,6 +1,5 @@
 pub mod Bodies
-pub mod Differences
-pub mod Keyed
+pub mod Numbers
 pub mod Once
 pub mod OpensOrRefuses
 pub mod Parts

@@ -3,8 +3,8 @@ use Rattle.std.specs.Prelude.{◌≡◌, ℕ, List, ◌++◌, length}
 use Rattle.munge_types.specs.declared.algorithms.Cipher.{Cipher}
 use Rattle.munge_types.specs.declared.algorithms.Cipher.TheVariants as cipher
 use Rattle.munge_types.specs.declared.algorithms.MacKind.{MacKind}
-use Rattle.cred_open.specs.Hmac.{hmac}
-use Rattle.cred_open.specs.Subkeys.{mac_subkey}
+use Rattle.hmac_core.specs.Hmac.{hmac}
+use Rattle.subkeys.specs.Subkeys.{mac_subkey}
 use Rattle.cred_open.specs.OuterPart.{outer_part, vector_size}
 
 -- The sealed part of an inner part. Without a cipher that is the inner part itself. No body with

@@ -1,12 +1,12 @@
 -- The decode rules 1 to 9, which look at a text and the key alone: the first that a text breaks
 -- with its status, and what a text says that breaks none.
-use Rattle.std.specs.Prelude.{◌≡◌, ℕ, ◌+◌, Bool, true, false, nat_eq, nat_lt, nat_le, cond, List, [], ◌∷◌, length, slice_index}
+use Rattle.std.specs.Prelude.{◌≡◌, ℕ, ◌+◌, Bool, true, false, not, ◌&&◌, ◌||◌, nat_eq, nat_lt, nat_le, cond, List, [], ◌∷◌, length, slice_index}
 use Rattle.std.specs.declared.option.Option.{Option}
 use Rattle.std.specs.declared.option.Option.TheVariants.{None, Some}
 use Rattle.munge_types.specs.Algorithms.{mac_size}
 use Rattle.munge_types.specs.declared.algorithms.Cipher.{Cipher}
 use Rattle.munge_types.specs.declared.algorithms.MacKind.{MacKind}
-use Rattle.munge_types.specs.declared.algorithms.MacKind.TheVariants.{Sha256}
+use Rattle.munge_types.specs.declared.algorithms.MacKind.TheVariants.{Sha1, Sha256, Sha512}
 use Rattle.munge_types.specs.declared.status.Status.{Status}
 use Rattle.munge_types.specs.declared.status.Status.TheVariants.{BadCredential, BadVersion, BadCipher, BadMac, BadCompression, BadRealm, Invalid}
 use Rattle.cred_armor.specs.CredentialText.{Spells}
@@ -28,9 +28,17 @@ version_rule (version ∷ bytes) = unless (nat_eq version 3) BadVersion
 abbrev pub cipher_rule : List ℕ → Option Status
 cipher_rule body = cond (nat_lt (length body) 5) (Some BadCredential) (unless (nat_eq (slice_index body 1) 0) BadCipher)
 
--- 4: the MAC is 5, which is SHA-256: no other is built yet
+-- the number of a MAC: 3 SHA-1, 5 SHA-256, 6 SHA-512
+abbrev pub is_mac : ℕ → Bool
+is_mac number = nat_eq number 3 || (nat_eq number 5 || nat_eq number 6)
+
+-- cipher 5 with MAC 3: such a cipher's key has 32 bytes, and SHA-1 gives 20
+abbrev pub key_too_long : (cipher kind : ℕ) → Bool
+key_too_long cipher kind = nat_eq cipher 5 && nat_eq kind 3
+
+-- 4: the MAC is 3, 5 or 6, and not 3 with cipher 5
 abbrev pub mac_rule : List ℕ → Option Status
-mac_rule body = unless (nat_eq (slice_index body 2) 5) BadMac
+mac_rule body = unless (is_mac (slice_index body 2) && not (key_too_long (slice_index body 1) (slice_index body 2))) BadMac
 
 -- 5: nothing is compressed
 abbrev pub compression_rule : List ℕ → Option Status
@@ -40,9 +48,13 @@ compression_rule body = unless (nat_eq (slice_index body 3) 0) BadCompression
 abbrev pub realm_rule : List ℕ → Option Status
 realm_rule body = unless (nat_eq (slice_index body 4) 0) BadRealm
 
+-- the bytes of the MAC of a number
+abbrev pub size_of_mac : ℕ → ℕ
+size_of_mac number = cond (nat_eq number 3) (mac_size Sha1) (cond (nat_eq number 5) (mac_size Sha256) (mac_size Sha512))
+
 -- 7: there is room for the MAC
 abbrev pub room_rule : List ℕ → Option Status
-room_rule body = unless (nat_le (5 + mac_size Sha256) (length body)) BadCredential
+room_rule body = unless (nat_le (5 + size_of_mac (slice_index body 2)) (length body)) BadCredential
 
 -- the rules on the outside of a body, in their order
 abbrev pub outer_rules : List ℕ → List (ℕ × Option Status)

@@ -2,16 +2,14 @@
 //! remembers.
 #![tactic(auto)]
 
-mod hmac;
 pub mod laws;
+mod mac;
 mod opened;
 mod opening;
 mod outer;
-mod subkeys;
 #[cfg(test)]
 mod tests;
 
 pub use opened::Opened;
 pub use opening::{OpenRefused, open_text};
 pub use outer::OuterRefused;
-pub use subkeys::{KeyRefused, Subkeys};

@@ -1,22 +1,23 @@
 //! From a credential's text to the credential, by the decode rules 1 to 9.
 
-ghost use Rattle.std.specs.Prelude.{◌≡◌, ◌++◌, ℕ, List, IfOk, IfErr};
-ghost use Rattle.munge_types.specs.declared.algorithms.MacKind.TheVariants.{Sha256};
+ghost use Rattle.std.specs.Prelude.{ℕ, List, Some, IfOk, IfErr};
 ghost use Rattle.cred_armor.specs.CredentialText.{Spells};
-ghost use Rattle.cred_open.specs.Hmac.{hmac};
 ghost use Rattle.cred_open.specs.OpeningRules.{Opens, Refuses};
 ghost use Rattle.cred_open.specs.OpenRefused.{IsRefusal, WantsMemoryFor};
-ghost use Rattle.cred_open.specs.Subkeys.{IsOf};
+ghost use Rattle.cred_open.specs.RefusedText.{refused_text};
+ghost use Rattle.subkeys.specs.Subkeys.{IsOf};
 
-use crate::hmac::{Hmac, equal};
-use crate::outer::{Outer, read_outer};
-use crate::{Opened, OuterRefused, Subkeys};
+use crate::mac::mac_of;
+use crate::outer::read_outer;
+use crate::{Opened, OuterRefused};
 use cred_armor::{ArmorRefused, unarmor};
 use cred_inner::{Inner, read_inner};
-use munge_types::{MacBytes, Status};
+use hmac_core::equal;
+use munge_types::Status;
 use std::alloc::Global;
 use std::error::Error;
 use std::fmt;
+use subkeys::Subkeys;
 
 /// Why a text is not opened.
 #[derive(Clone, Copy, Debug, PartialEq, Eq)]
@@ -28,6 +29,8 @@ pub enum OpenRefused {
 }
 
 impl fmt::Display for OpenRefused {
+    ghost output = { λ refused. Some (refused_text refused) };
+
     fn fmt<W: fmt::Write>(&self, f: &mut fmt::Formatter<W>) -> fmt::Result {
         match self {
             OpenRefused::Failed(broken) => write!(f, "{broken}"),
@@ -69,7 +72,7 @@ fn open_body(subkeys: &Subkeys, body: Vec<u8>) -> Result<Opened, OuterRefused>
         → IfErr result (λ broken. Refuses key text broken.rule broken.status) }
 {
     let outer = read_outer(&body)?;
-    let mac = mac_of(subkeys, &outer);
+    let mac = mac_of(subkeys, outer.kind, outer.front, outer.sealed);
     if !equal(&mac, outer.mac) {
         return Err(OuterRefused::by(8, Status::Invalid));
     }
@@ -88,16 +91,4 @@ fn open_body(subkeys: &Subkeys, body: Vec<u8>) -> Result<Opened, OuterRefused>
         body,
         payload_at,
     })
-}
-
-/// The MAC that the credential of this outer part and this plain inner part has.
-fn mac_of(subkeys: &Subkeys, outer: &Outer<'_>) -> MacBytes
-    requires { outer.now.kind ≡ Sha256 }
-    ensures { result
-        ≡ hmac outer.now.kind subkeys.now.mac (outer.now.front.now ++ outer.now.sealed.now) }
-{
-    let mut hmac = Hmac::new(outer.kind, subkeys.mac_key());
-    hmac.update(outer.front);
-    hmac.update(outer.sealed);
-    hmac.finish()
 }

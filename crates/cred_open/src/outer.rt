@@ -1,9 +1,10 @@
 //! The outside of a credential's body: what stands round its sealed part, and the rules on it.
 
-ghost use Rattle.std.specs.Prelude.{◌≡◌, ◌≤◌, ◌++◌, [], length, None, Some, IfOk, IfErr, OnOk};
+ghost use Rattle.std.specs.Prelude.{◌≡◌, ◌≤◌, ◌+◌, ◌++◌, [], length, take, None, Some, IfOk, IfErr, OnOk};
 ghost use Rattle.munge_types.specs.Algorithms.{mac_size};
 ghost use Rattle.cred_open.specs.OpeningRules.{first_broken, outer_rules};
 ghost use Rattle.cred_open.specs.OuterPart.{outer_part};
+ghost use Rattle.cred_open.specs.RefusedText.{broken_text};
 
 use munge_types::{Cipher, MacKind, Rule, Status};
 use std::error::Error;
@@ -25,6 +26,8 @@ pub struct OuterRefused {
 }
 
 impl fmt::Display for OuterRefused {
+    ghost output = { λ broken. Some (broken_text broken) };
+
     fn fmt<W: fmt::Write>(&self, f: &mut fmt::Formatter<W>) -> fmt::Result {
         let rule = self.rule.number();
         let status = self.status.number();
@@ -74,10 +77,8 @@ pub(crate) fn read_outer(body: &[u8]) -> Result<Outer<'_>, OuterRefused>
     ensures front { IfOk result (λ outer. outer.front.now ≡ outer_part outer.cipher outer.kind []) }
     ensures mac { IfOk result (λ outer. length outer.mac.now ≡ mac_size outer.kind) }
     ensures cipher { IfOk result (λ outer. outer.cipher ≡ Cipher.None) }
-    ensures kind { IfOk result (λ outer. outer.kind ≡ MacKind.Sha256) }
 {
-    follow_rules(body)?;
-    let (cipher, kind) = (Cipher::None, MacKind::Sha256);
+    let (cipher, kind) = follow_rules(body)?;
     let (front, behind) = body.split_at(HEAD_SIZE);
     let (mac, sealed) = behind.split_at(kind.size());
     Ok(Outer {
@@ -89,12 +90,16 @@ pub(crate) fn read_outer(body: &[u8]) -> Result<Outer<'_>, OuterRefused>
     })
 }
 
-/// The rules on the outside of a body, in their order. The cipher has to be none, and the MAC
-/// SHA-256.
-fn follow_rules(body: &[u8]) -> Result<(), OuterRefused>
+/// The cipher and the MAC of a body that follows the rules on its outside, looked at in their
+/// order. The cipher has to be none.
+fn follow_rules(body: &[u8]) -> Result<(Cipher, MacKind), OuterRefused>
     ensures broken { IfErr result (λ refused.
         first_broken (outer_rules body.now) ≡ Some (refused.rule, refused.status)) }
     ensures unbroken { OnOk result (first_broken (outer_rules body.now) ≡ None) }
+    ensures cipher { IfOk result (λ algorithms. algorithms.0 ≡ Cipher.None) }
+    ensures front { IfOk result (λ algorithms.
+        take 5 body.now ≡ outer_part algorithms.0 algorithms.1 []) }
+    ensures room { IfOk result (λ algorithms. 5 + mac_size algorithms.1 ≤ length body.now) }
 {
     if body.is_empty() {
         return Err(OuterRefused::by(2, Status::BadCredential));
@@ -108,17 +113,17 @@ fn follow_rules(body: &[u8]) -> Result<(), OuterRefused>
     if body[1] != Cipher::None.number() {
         return Err(OuterRefused::by(3, Status::BadCipher));
     }
-    if body[2] != MacKind::Sha256.number() {
+    let Some(kind) = MacKind::of(body[2]) else {
         return Err(OuterRefused::by(4, Status::BadMac));
-    }
+    };
     if body[3] != 0 {
         return Err(OuterRefused::by(5, Status::BadCompression));
     }
     if body[4] != 0 {
         return Err(OuterRefused::by(6, Status::BadRealm));
     }
-    if body.len() < HEAD_SIZE + MacKind::Sha256.size() {
+    if body.len() < HEAD_SIZE + kind.size() {
         return Err(OuterRefused::by(7, Status::BadCredential));
     }
-    Ok(())
+    Ok((Cipher::None, kind))
 }

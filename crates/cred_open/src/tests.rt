@@ -1,7 +1,6 @@
-//! Opening by worked texts. The MACs and the credential come from Python's `hmac` and `hashlib`.
+//! Opening by worked texts. The credentials with their MACs come from Python's `hmac` and `hashlib`.
 
-use crate::hmac::Hmac;
-use crate::{KeyRefused, OpenRefused, Opened, Subkeys, open_text};
+use crate::{OpenRefused, Opened, open_text};
 use base64::engine::general_purpose::STANDARD;
 use munge_types::{Cipher, MacKind};
 use sha1::Sha1;
@@ -9,6 +8,7 @@ use sha2::{Digest, Sha256};
 use std::alloc::{AllocError, Global};
 use std::process::Abort;
 use std::test::Fail;
+use subkeys::Subkeys;
 
 /// A key file.
 const KEY: [u8; 32] = [0; 32];
@@ -80,52 +80,8 @@ fn armored(alloc: Global, body: &[u8]) -> Result<Vec<u8>, AllocError> {
 }
 
 #[test]
-fn keys_of_32_to_1024_bytes(rt: HostRuntime) -> Result<(), Fail> {
-    let bytes = [0xab; 1025];
-    assert!(rt; matches!(Subkeys::of(&bytes[..31]), Err(KeyRefused::TooShort(31))));
-    assert!(rt; matches!(Subkeys::of(&bytes), Err(KeyRefused::TooLong(1025))));
-    assert_eq!(rt;
-        Subkeys::of(&KEY)?.mac_key(),
-        b"\xb6\x8b\xfe\x0f\x6c\xc2\x70\x18\x06\x86\xd8\x22\xdc\x65\x04\x5e\x1e\x52\x06\x1e"
-    );
-    assert_eq!(rt;
-        Subkeys::of(&bytes[..1024])?.mac_key(),
-        b"\x4f\xcb\x4a\x9c\x0c\xbf\xaf\xf8\x3e\xa7\x0f\x36\xe5\x56\x64\x73\x0e\x3f\xdc\x4a"
-    );
-    Ok(())
-}
-
-#[test]
-fn hmac_vectors(rt: HostRuntime) {
-    let bytes = [0x0b; 65];
-    for (size, want) in [
-        (
-            20,
-            b"\xb0\x34\x4c\x61\xd8\xdb\x38\x53\x5c\xa8\xaf\xce\xaf\x0b\xf1\x2b\x88\x1d\xc2\x00\xc9\x83\x3d\xa7\x26\xe9\x37\x6c\x2e\x32\xcf\xf7",
-        ),
-        (
-            64,
-            b"\x21\xcd\x58\x6a\xec\xa0\x57\x9d\x99\xa1\xc9\x38\x12\x7c\x92\x52\x5a\x37\x1f\x80\x7b\xc5\xba\x6e\xb7\x8b\xc8\x25\xbd\x4f\x2b\xe3",
-        ),
-        (
-            65,
-            b"\x72\x7b\x82\xfb\xa2\x64\x39\x3c\x5d\x67\xfd\x6d\x6a\xd7\x83\xe9\x01\x9a\x1f\xa6\xa8\x57\xfc\xcb\x70\xf5\x85\x2f\x04\xbe\x5d\x5d",
-        ),
-    ] {
-        let mut hmac = Hmac::new(MacKind::Sha256, &bytes[..size]);
-        hmac.update(b"Hi ");
-        hmac.update(b"There");
-        assert_eq!(rt;
-            hmac.finish().bytes(),
-            want.as_slice(),
-            "under a key of {size} bytes"
-        );
-    }
-}
-
-#[test]
 fn texts_that_break_a_rule(rt: HostRuntime) -> Result<(), Fail> {
-    let table: [(&[u8], u8, u8); 15] = [
+    let table: [(&[u8], u8, u8); 20] = [
         (b"", 1, 8),
         (b"MUNGE:", 1, 8),
         (b"munge::", 1, 8),
@@ -137,10 +93,15 @@ fn texts_that_break_a_rule(rt: HostRuntime) -> Result<(), Fail> {
         (b"MUNGE:Aw==:", 3, 8),
         (b"MUNGE:AwIFAAA=:", 3, 10),
         (b"MUNGE:AwMFAAA=:", 3, 10),
-        (b"MUNGE:AwADAAA=:", 4, 11),
+        (b"MUNGE:AwUDAAA=:", 3, 10),
+        (b"MUNGE:AwABAAA=:", 4, 11),
+        (b"MUNGE:AwAEAAA=:", 4, 11),
+        (b"MUNGE:AwAHAAA=:", 4, 11),
         (b"MUNGE:AwAFAgA=:", 5, 12),
         (b"MUNGE:AwAFAAE=:", 6, 13),
+        (b"MUNGE:AwADAAA=:", 7, 8),
         (b"MUNGE:AwAFAAA=:", 7, 8),
+        (b"MUNGE:AwAGAAA=:", 7, 8),
     ];
     for (text, rule, status) in table {
         assert_refused(&rt, rt.alloc(), text, rule, status)?;
@@ -148,11 +109,17 @@ fn texts_that_break_a_rule(rt: HostRuntime) -> Result<(), Fail> {
     Ok(())
 }
 
-#[test]
-fn a_credential_opens(rt: HostRuntime) -> Result<(), Fail> {
-    let opened = opened(rt.alloc(), CREDENTIAL)?;
+/// The credential opens to the content that all of them have, by this MAC.
+fn assert_opens(
+    rt: &impl Abort,
+    alloc: Global,
+    text: &[u8],
+    kind: MacKind,
+    mac: &[u8],
+) -> Result<(), Fail> {
+    let opened = opened(alloc, text)?;
     assert_eq!(rt; opened.cipher(), Cipher::None);
-    assert_eq!(rt; opened.kind(), MacKind::Sha256);
+    assert_eq!(rt; opened.kind(), kind);
     let inner = opened.inner();
     assert_eq!(rt; inner.salt, [1, 2, 3, 4, 5, 6, 7, 8]);
     assert_eq!(rt; inner.addr, [127, 0, 0, 1]);
@@ -162,10 +129,52 @@ fn a_credential_opens(rt: HostRuntime) -> Result<(), Fail> {
     assert_eq!(rt; inner.payload, b"hello".as_slice());
     assert_eq!(rt; opened.pair(200).expiry, 1200);
     assert_eq!(rt; opened.pair(3600).expiry, 1300);
-    assert_eq!(rt;
-        opened.pair(3600).mac.bytes(),
-        b"\x37\x04\xbf\x00\x5f\x4d\x3b\xd1\x2c\xeb\x17\xb1\xcc\xe1\xf5\x12\x9e\x2a\xed\xe1\x7b\xa2\xf2\xdf\x97\x65\x26\x97\xb8\xa6\x80\xf1".as_slice()
-    );
+    assert_eq!(rt; opened.pair(3600).mac.bytes(), mac);
+    Ok(())
+}
+
+#[test]
+fn credentials_of_each_mac_open(rt: HostRuntime) -> Result<(), Fail> {
+    let table: [(&[u8], MacKind, &[u8]); 3] = [
+        (
+            b"MUNGE:AwADAADjtu8DVav7Qf6mWEnoR96pKtv5jAECAwQFBgcIBH8AAAEAAAPoAAABLAAAAAcAAAAI/////wAAADIAAAAFaGVsbG8=:",
+            MacKind::Sha1,
+            b"\xe3\xb6\xef\x03\x55\xab\xfb\x41\xfe\xa6\x58\x49\xe8\x47\xde\xa9\x2a\xdb\xf9\x8c",
+        ),
+        (
+            CREDENTIAL,
+            MacKind::Sha256,
+            b"\x37\x04\xbf\x00\x5f\x4d\x3b\xd1\x2c\xeb\x17\xb1\xcc\xe1\xf5\x12\x9e\x2a\xed\xe1\x7b\xa2\xf2\xdf\x97\x65\x26\x97\xb8\xa6\x80\xf1",
+        ),
+        (
+            b"MUNGE:AwAGAABjinllWdddUKb1Bx4Yn1siHUkT3rvSuZfJece8cikESf6F8g5yYf9rl8WMtPSDhwK2xYOO0VlT+SxRkaB831E0AQIDBAUGBwgEfwAAAQAAA+gAAAEsAAAABwAAAAj/////AAAAMgAAAAVoZWxsbw==:",
+            MacKind::Sha512,
+            b"\x63\x8a\x79\x65\x59\xd7\x5d\x50\xa6\xf5\x07\x1e\x18\x9f\x5b\x22\x1d\x49\x13\xde\xbb\xd2\xb9\x97\xc9\x79\xc7\xbc\x72\x29\x04\x49\xfe\x85\xf2\x0e\x72\x61\xff\x6b\x97\xc5\x8c\xb4\xf4\x83\x87\x02\xb6\xc5\x83\x8e\xd1\x59\x53\xf9\x2c\x51\x91\xa0\x7c\xdf\x51\x34",
+        ),
+    ];
+    for (text, kind, mac) in table {
+        assert_opens(&rt, rt.alloc(), text, kind, mac)?;
+    }
+    Ok(())
+}
+
+#[test]
+fn bodies_with_and_without_room_for_the_mac(rt: HostRuntime) -> Result<(), Fail> {
+    let table = [
+        (3, 24, 7, 8),
+        (3, 25, 8, 14),
+        (5, 36, 7, 8),
+        (5, 37, 8, 14),
+        (6, 68, 7, 8),
+        (6, 69, 8, 14),
+    ];
+    for (number, size, rule, status) in table {
+        let mut body = vec![in rt.alloc(); 0; size]?;
+        assert!(rt; 5 <= body.len());
+        body[0] = 3;
+        body[2] = number;
+        assert_refused(&rt, rt.alloc(), &armored(rt.alloc(), &body)?, rule, status)?;
+    }
     Ok(())
 }
 

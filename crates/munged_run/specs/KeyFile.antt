@@ -5,7 +5,7 @@ use Rattle.std.specs.declared.result.Result.{Result}
 use Rattle.std.specs.declared.result.Result.TheVariants.{Ok, Err}
 use Rattle.byte_io.specs.Counts.{Rose}
 use Rattle.byte_io.specs.Files.{ReadsFile}
-use Rattle.cred_open.specs.Subkeys.{SubkeyPair, IsOf}
+use Rattle.subkeys.specs.Subkeys.{SubkeyPair, IsOf}
 use Rattle.munged_run.specs.declared.key_file.NoKey.{NoKey}
 use Rattle.munged_run.specs.declared.key_file.NoKey.TheVariants.{Unread, Refused, NoMemory}
 

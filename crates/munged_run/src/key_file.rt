@@ -4,8 +4,8 @@ ghost use Rattle.std.specs.Prelude.{◌≡◌};
 ghost use Rattle.munged_run.specs.KeyFile.{ReadsKey, CountsKeyFault};
 
 use byte_io::{FileFail, Files};
-use cred_open::Subkeys;
 use std::alloc::Global;
+use subkeys::Subkeys;
 
 /// The most bytes that are read of a key file, one more than it may have.
 const KEY_ROOM: u32 = 1025;

@@ -3,7 +3,7 @@
 ghost use Rattle.std.specs.Prelude.{◌≡◌, ℕ, [], List, IfOk};
 ghost use Rattle.cred_inner.specs.Inner.{content_of};
 ghost use Rattle.cred_open.specs.OpeningRules.{first_broken};
-ghost use Rattle.cred_open.specs.Subkeys.{IsOf};
+ghost use Rattle.subkeys.specs.Subkeys.{IsOf};
 ghost use Rattle.session_core.specs.DecodeReply.{content_bytes, decode_reply, nowhere};
 ghost use Rattle.session_core.specs.DecodeRules.{caller_rules, shown_by};
 ghost use Rattle.session_core.specs.Prepared.{IsJudged, IsPrepared, line_of};

@@ -4,7 +4,7 @@ ghost use Rattle.std.specs.Prelude.{◌≡◌, ◌≢◌, ℕ, ◌≤◌, List};
 ghost use Rattle.byte_io.specs.Counts.{Rose};
 ghost use Rattle.munge_types.specs.StandsFor.{StandsFor};
 ghost use Rattle.munge_types.specs.declared.history.Event.{Event};
-ghost use Rattle.cred_open.specs.Subkeys.{IsOf};
+ghost use Rattle.subkeys.specs.Subkeys.{IsOf};
 ghost use Rattle.session_core.specs.SessionRan.{SessionRan};
 ghost use Rattle.session_core.specs.AllLive.{AllLive};
 ghost use Rattle.session_core.specs.Reading.{CameToEnd};

@@ -1,7 +1,7 @@
 //! What a session opens credentials with.
 
-use cred_open::Subkeys;
 use munge_types::Settings;
+use subkeys::Subkeys;
 
 /// What stays the same over a session.
 #[derive(Drop)]

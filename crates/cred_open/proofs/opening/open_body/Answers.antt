@@ -16,25 +16,25 @@ returns-in_err-outer-clause-refused c =
 pub returns-then-not-equal-clause-refused : goal.returns-then-not-equal-clause-refused
 returns-then-not-equal-clause-refused c =
     λ key text of spells.
-    let parts : IsTaken key c.args.body.items c.in_ok-outer.outer.mac.now c.in_ok-outer.outer.sealed.now c.mac_of-mac.result =
+    let parts : IsTaken key c.args.body.items c.in_ok-outer.outer.mac.now c.in_ok-outer.outer.sealed.now c.mac_of-mac.result c.in_ok-outer.outer.kind =
     taken key c.args.subkeys.now.mac c.args.body.items c.deref.result.now c.in_ok-outer.outer.front.now
     c.in_ok-outer.outer.mac.now c.in_ok-outer.outer.sealed.now c.mac_of-mac.result c.in_ok-outer.outer.cipher c.in_ok-outer.outer.kind
     c.deref.ensures.value c.in_ok-outer.ensures.unbroken c.in_ok-outer.ensures.parts c.in_ok-outer.ensures.front
-    c.in_ok-outer.ensures.mac c.in_ok-outer.ensures.cipher c.in_ok-outer.ensures.kind c.mac_of-mac.ensures of.mac_is in
+    c.in_ok-outer.ensures.mac c.in_ok-outer.ensures.cipher c.mac_of-mac.ensures of.mac_is in
     rw (c.by.ensures.rule, c.by.ensures.status)
-    (refuses_unsealed key text c.args.body.items c.in_ok-outer.outer.mac.now c.in_ok-outer.outer.sealed.now c.mac_of-mac.result spells parts
+    (refuses_unsealed key text c.args.body.items c.in_ok-outer.outer.mac.now c.in_ok-outer.outer.sealed.now c.mac_of-mac.result c.in_ok-outer.outer.kind spells parts
     (λ same. both_ways c.equal.result c.if-not-equal.true (c.equal.ensures.1 same)))
 
 pub returns-in_default-clause-refused : goal.returns-in_default-clause-refused
 returns-in_default-clause-refused c =
     λ key text of spells.
-    let parts : IsTaken key c.args.body.items c.in_ok-outer.outer.mac.now c.in_ok-outer.outer.sealed.now c.mac_of-mac.result =
+    let parts : IsTaken key c.args.body.items c.in_ok-outer.outer.mac.now c.in_ok-outer.outer.sealed.now c.mac_of-mac.result c.in_ok-outer.outer.kind =
     taken key c.args.subkeys.now.mac c.args.body.items c.deref.result.now c.in_ok-outer.outer.front.now
     c.in_ok-outer.outer.mac.now c.in_ok-outer.outer.sealed.now c.mac_of-mac.result c.in_ok-outer.outer.cipher c.in_ok-outer.outer.kind
     c.deref.ensures.value c.in_ok-outer.ensures.unbroken c.in_ok-outer.ensures.parts c.in_ok-outer.ensures.front
-    c.in_ok-outer.ensures.mac c.in_ok-outer.ensures.cipher c.in_ok-outer.ensures.kind c.mac_of-mac.ensures of.mac_is in
+    c.in_ok-outer.ensures.mac c.in_ok-outer.ensures.cipher c.mac_of-mac.ensures of.mac_is in
     rw (c.by-in_default.ensures.rule, c.by-in_default.ensures.status)
-    (refuses_empty key text c.args.body.items c.in_ok-outer.outer.mac.now c.in_ok-outer.outer.sealed.now c.mac_of-mac.result spells parts
+    (refuses_empty key text c.args.body.items c.in_ok-outer.outer.mac.now c.in_ok-outer.outer.sealed.now c.mac_of-mac.result c.in_ok-outer.outer.kind spells parts
     (c.equal.ensures.0 c.if-not-equal.false) c.in_default.ensures.none)
 
 pub overflow_sub-payload_at : goal.overflow_sub-payload_at
@@ -47,11 +47,11 @@ overflow_sub-payload_at c =
 pub returns-clause-opened : goal.returns-clause-opened
 returns-clause-opened c =
     λ key text of spells.
-    let parts : IsTaken key c.args.body.items c.in_ok-outer.outer.mac.now c.in_ok-outer.outer.sealed.now c.mac_of-mac.result =
+    let parts : IsTaken key c.args.body.items c.in_ok-outer.outer.mac.now c.in_ok-outer.outer.sealed.now c.mac_of-mac.result c.in_ok-outer.outer.kind =
     taken key c.args.subkeys.now.mac c.args.body.items c.deref.result.now c.in_ok-outer.outer.front.now
     c.in_ok-outer.outer.mac.now c.in_ok-outer.outer.sealed.now c.mac_of-mac.result c.in_ok-outer.outer.cipher c.in_ok-outer.outer.kind
     c.deref.ensures.value c.in_ok-outer.ensures.unbroken c.in_ok-outer.ensures.parts c.in_ok-outer.ensures.front
-    c.in_ok-outer.ensures.mac c.in_ok-outer.ensures.cipher c.in_ok-outer.ensures.kind c.mac_of-mac.ensures of.mac_is in
+    c.in_ok-outer.ensures.mac c.in_ok-outer.ensures.cipher c.mac_of-mac.ensures of.mac_is in
     let ends : EndsWith c.args.body.items c.in-Some.inner.payload.now =
     body_ends c.deref.result.now c.args.body.items c.in_ok-outer.outer.front.now c.in_ok-outer.outer.mac.now
     c.in_ok-outer.outer.sealed.now (content_of c.in-Some.inner) c.deref.ensures.value c.in_ok-outer.ensures.parts c.in-Some.ensures.laid_out in
@@ -62,4 +62,4 @@ returns-clause-opened c =
     (drop (c.len.result - length c.in-Some.inner.payload.now) c.args.body.items) (content_of c.in-Some.inner)
     c.in_ok-outer.outer.cipher c.in_ok-outer.outer.kind spells parts
     (c.equal.ensures.0 c.if-not-equal.false) c.in-Some.ensures.content c.in-Some.ensures.laid_out
-    c.in_ok-outer.ensures.cipher c.in_ok-outer.ensures.kind kept_is
+    c.in_ok-outer.ensures.cipher kept_is

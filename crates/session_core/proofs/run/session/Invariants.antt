@@ -1,7 +1,7 @@
 use Rattle.std.proofs.Common.{◌≡◌, ℕ, ◌*◌, ◌≤◌, List}
 use Rattle.munge_types.specs.StandsFor.{StandsFor}
 use Rattle.munge_types.specs.declared.history.Event.{Event}
-use Rattle.cred_open.specs.Subkeys.{IsOf}
+use Rattle.subkeys.specs.Subkeys.{IsOf}
 use Rattle.session_core.specs.AllLive.{AllLive}
 use Rattle.session_core.specs.RunSoFar.{RunSoFar}
 use Rattle.session_core.proofs.run.session.Given as goal
