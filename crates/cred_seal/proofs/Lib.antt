@@ -1,0 +1,4 @@
+mod DiceWords
+pub mod Once
+pub mod RoundTrips
+pub mod SealedTexts

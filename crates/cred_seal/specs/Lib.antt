@@ -1,0 +1,7 @@
+pub mod Asked
+pub mod Dice
+pub mod RefusedText
+pub mod RoundTrip
+pub mod SealRefused
+pub mod SealedContent
+pub mod SealedText

@@ -1,0 +1,84 @@
+//! What a request asks for, looked up and checked.
+
+ghost use Rattle.std.specs.Prelude.{◌≡◌, ◌≤◌, length, None, Some, IfOk, IfErr};
+ghost use Rattle.cred_inner.specs.InnerPart.{payload_limit};
+ghost use Rattle.munge_types.specs.declared.algorithms.Cipher.{Cipher};
+ghost use Rattle.cred_seal.specs.Asked.{asked_of, cipher_asked, mac_asked, sha1_with};
+ghost use Rattle.cred_seal.specs.SealRefused.{first_refusal};
+ghost use Rattle.cred_seal.specs.SealedContent.{stored_ttl};
+
+use crate::{SealRefused, SealRequest};
+use cred_inner::PAYLOAD_LIMIT;
+use munge_types::{Cipher, MacKind, Settings};
+
+/// The time to live, in seconds, of which a request has none.
+const DEFAULT_TTL: u32 = 0;
+
+/// The time to live that asks for the longest.
+const LONGEST_TTL: u32 = u32::MAX;
+
+/// The algorithms that a request asks for, or the first cause to refuse it.
+pub(crate) fn algorithms(request: &SealRequest<'_>) -> Result<(Cipher, MacKind), SealRefused>
+    ensures refused { IfErr result (λ refused.
+        first_refusal (asked_of request.now) ≡ Some refused) }
+    ensures unrefused { IfOk result (λ asked. first_refusal (asked_of request.now) ≡ None) }
+    ensures cipher { IfOk result (λ asked. cipher_asked request.now.cipher ≡ Some asked.0) }
+    ensures kind { IfOk result (λ asked. mac_asked asked.0 request.now.kind ≡ Some asked.1) }
+    ensures plain { IfOk result (λ asked. asked.0 ≡ Cipher.None) }
+    ensures payload { IfOk result (λ asked. length request.now.payload.now ≤ payload_limit) }
+{
+    let Some(cipher) = cipher_asked(request.cipher) else {
+        return Err(SealRefused::BadCipher);
+    };
+    let Some(kind) = mac_asked(cipher, request.kind) else {
+        return Err(SealRefused::BadMac);
+    };
+    let size = request.payload.len();
+    if size > PAYLOAD_LIMIT {
+        return Err(SealRefused::BadLength(size as u64));
+    }
+    Ok((cipher, kind))
+}
+
+/// The cipher of this number in a request, and None where none that is built has it.
+fn cipher_asked(number: u8) -> Option<Cipher>
+    ensures { result ≡ cipher_asked number }
+{
+    match number {
+        0 => Some(Cipher::None),
+        _ => None,
+    }
+}
+
+/// The MAC of this number in a request, and None where none has it that can be used with the cipher.
+fn mac_asked(cipher: Cipher, number: u8) -> Option<MacKind>
+    ensures { result ≡ mac_asked cipher number }
+{
+    match number {
+        3 => sha1_with(cipher),
+        5 | 1 => Some(MacKind::Sha256),
+        6 => Some(MacKind::Sha512),
+        _ => None,
+    }
+}
+
+/// SHA-1, but with AES-256: such a key has 32 bytes, and SHA-1 gives 20.
+fn sha1_with(cipher: Cipher) -> Option<MacKind>
+    ensures { result ≡ sha1_with cipher }
+{
+    match cipher {
+        Cipher::None | Cipher::Aes128 => Some(MacKind::Sha1),
+        Cipher::Aes256 => None,
+    }
+}
+
+/// The time to live, in seconds, that a credential gets for which this one was asked.
+pub(crate) fn stored_ttl(settings: &Settings, ttl: u32) -> u32
+    ensures { result ≡ stored_ttl settings.now ttl }
+{
+    match ttl {
+        DEFAULT_TTL => settings.default_ttl,
+        LONGEST_TTL => settings.max_ttl,
+        _ => ttl.min(settings.max_ttl),
+    }
+}
