@@ -6,10 +6,11 @@ use Rattle.std.specs.declared.option.Option.{Option}
 use Rattle.std.specs.declared.option.Option.TheVariants.{None, Some}
 use Rattle.munge_types.specs.declared.identity.Identity.{Identity}
 
--- a session under the key of this file, for this caller
+-- a session under the key of this file, for this caller, with the seed of a file if one is named
 pub record Command : Type 0 where
   pub key_file : List ℕ
   pub who : Identity
+  pub seed_file : Option (List ℕ)
 
 -- an ASCII digit
 abbrev pub is_digit : ℕ → Bool
@@ -28,12 +29,18 @@ abbrev pub id_of : List ℕ → Option ℕ
 id_of word = if is_numeral word && nat_le (digits_value 10 word) largest_id then Some (digits_value 10 word) else None
 
 -- the command of these parts; a caller of a session has no control
-abbrev pub command_with : (key_file : List ℕ) → (uid gid : Option ℕ) → Option Command
-command_with key_file (Some uid) (Some gid) = Some (record { key_file = key_file; who = record { uid = uid; gid = gid; control = false } })
-command_with key_file (Some uid) None = None
-command_with key_file None gid = None
+abbrev pub command_with : (key_file : List ℕ) → (uid gid : Option ℕ) → (seed_file : Option (List ℕ)) → Option Command
+command_with key_file (Some uid) (Some gid) seed_file =
+    Some (record { key_file = key_file; who = record { uid = uid; gid = gid; control = false }; seed_file = seed_file })
+command_with key_file (Some uid) None seed_file = None
+command_with key_file None gid seed_file = None
 
--- what the words ask for, if it is something: `session KEYFILE UID GID`
+-- what a command of this name asks for, if it is `session`
+abbrev pub session_of : (name key_file uid gid : List ℕ) → (seed_file : Option (List ℕ)) → Option Command
+session_of name key_file uid gid seed_file = if bytes_eq name (codes "session") then command_with key_file (id_of uid) (id_of gid) seed_file else None
+
+-- what the words ask for, if it is something: `session KEYFILE UID GID`, or `session KEYFILE UID GID SEEDFILE`
 abbrev pub command_of : List (List ℕ) → Option Command
-command_of (name ∷ key_file ∷ uid ∷ gid ∷ []) = if bytes_eq name (codes "session") then command_with key_file (id_of uid) (id_of gid) else None
+command_of (name ∷ key_file ∷ uid ∷ gid ∷ []) = session_of name key_file uid gid None
+command_of (name ∷ key_file ∷ uid ∷ gid ∷ seed_file ∷ []) = session_of name key_file uid gid (Some seed_file)
 command_of words = None

@@ -9,6 +9,7 @@ use Rattle.session_core.specs.SessionRan.{SessionRan, Things}
 use Rattle.session_core.specs.declared.end.SessionEnd.{SessionEnd}
 use Rattle.munged_run.specs.CommandLine.{Command, command_of}
 use Rattle.munged_run.specs.KeyFile.{IsKey, key_room}
+use Rattle.munged_run.specs.SeedFile.{HoldsNoSeed, IsNamed, IsSeedOf}
 use Rattle.munged_run.specs.Exit.{exit_number, exit_after}
 use Rattle.munged_run.specs.declared.exit.Exit.TheVariants as exit
 
@@ -40,13 +41,27 @@ pub data Ran (words : List (List ℕ)) (files : Option (List (List ℕ × List �
   -- what was read is no key
   bad_key : (command : Command) → command_of words ≡ Some command
       → (key : List ℕ) → ReadsFile files command.key_file key_room key → ¬ (IsKey key)
-      → untouched → number ≡ exit_number exit.BadKey → Ran words files untouched ended before after number
+      → untouched → number ≡ exit_number exit.BadKeyOrSeed → Ran words files untouched ended before after number
   -- there was no memory for the key file
   no_memory : (command : Command) → command_of words ≡ Some command → untouched → number ≡ exit_number exit.NoMemory → Ran words files untouched ended before after number
-  -- a session ran under the key that was read, from the empty history on
+  -- the key file holds a key, and the seed file was not read
+  no_seed_file : (command : Command) → command_of words ≡ Some command
+      → (key : List ℕ) → ReadsFile files command.key_file key_room key → IsKey key → IsNamed command.seed_file
+      → untouched → number ≡ exit_number exit.FileFault → Ran words files untouched ended before after number
+  -- the key file holds a key, and what was read of the seed file is no seed
+  bad_seed : (command : Command) → command_of words ≡ Some command
+      → (key : List ℕ) → ReadsFile files command.key_file key_room key → IsKey key → HoldsNoSeed files command.seed_file
+      → untouched → number ≡ exit_number exit.BadKeyOrSeed → Ran words files untouched ended before after number
+  -- the key file holds a key, and there was no memory for the seed file
+  no_memory_for_seed : (command : Command) → command_of words ≡ Some command
+      → (key : List ℕ) → ReadsFile files command.key_file key_room key → IsKey key → IsNamed command.seed_file
+      → untouched → number ≡ exit_number exit.NoMemory → Ran words files untouched ended before after number
+  -- a session ran under the key that was read, with the seed that was read if a file is named for
+  -- it, from the empty history on
   session : (command : Command) → command_of words ≡ Some command
       → (key : List ℕ) → ReadsFile files command.key_file key_room key → IsKey key
+      → (seed : Option (List ℕ)) → IsSeedOf files command.seed_file seed
       → (settings : Settings) → IsUsual settings
       → (end : SessionEnd) (floor : ℕ) (kept : List Pair)
-      → SessionRan key settings command.who [] end (things_of before 0 []) (things_of after floor kept) ended
+      → SessionRan key settings command.who seed [] end (things_of before 0 []) (things_of after floor kept) ended
       → number ≡ exit_number (exit_after end.how) → Ran words files untouched ended before after number

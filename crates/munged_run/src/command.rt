@@ -3,7 +3,7 @@
 ghost use Rattle.std.specs.Prelude.{◌≡◌, map, option_map};
 ghost use Rattle.std.specs.List.{list_all};
 ghost use Rattle.std.specs.String.{string_bytes};
-ghost use Rattle.munged_run.specs.CommandLine.{command_of, id_of, is_digit, is_numeral};
+ghost use Rattle.munged_run.specs.CommandLine.{command_of, id_of, is_digit, is_numeral, session_of};
 ghost use Rattle.munged_run.specs.SessionCommand.{command_told};
 
 use munge_types::Identity;
@@ -14,33 +14,64 @@ const MOST_DIGITS: usize = 20;
 /// The largest UID and GID of a caller.
 const LARGEST_ID: u32 = 4294967294;
 
-/// A session under the key of a file, for a caller.
+/// A session under the key of a file, for a caller, with the seed of a file if one is named.
 #[derive(Clone, Copy, Debug, PartialEq, Eq)]
 pub struct SessionCommand<'a> {
     /// The path of the key file.
     pub key_file: &'a str,
     /// The caller, who has no control.
     pub who: Identity,
+    /// The path of the seed file. Without one nothing is sealed.
+    pub seed_file: Option<&'a str>,
 }
 
-/// What the words ask for, which do not hold the program's name: `session KEYFILE UID GID`.
+/// What the words ask for, which do not hold the program's name: `session KEYFILE UID GID`, or
+/// `session KEYFILE UID GID SEEDFILE`.
 pub fn command_of_words(words: &[String]) -> Option<SessionCommand<'_>>
     ensures { option_map command_told result ≡ command_of (map string_bytes words.now) }
 {
-    let [name, key_file, uid, gid] = words else {
-        return None;
-    };
-    if name.as_str() != "session" {
+    match words {
+        [name, key_file, uid, gid] => session_of_words(
+            name.as_str(),
+            key_file.as_str(),
+            uid.as_str(),
+            gid.as_str(),
+            None,
+        ),
+        [name, key_file, uid, gid, seed_file] => session_of_words(
+            name.as_str(),
+            key_file.as_str(),
+            uid.as_str(),
+            gid.as_str(),
+            Some(seed_file.as_str()),
+        ),
+        _ => None,
+    }
+}
+
+/// What a command of this name asks for, if it is `session`.
+fn session_of_words<'a>(
+    name: &str,
+    key_file: &'a str,
+    uid: &str,
+    gid: &str,
+    seed_file: Option<&'a str>,
+) -> Option<SessionCommand<'a>>
+    ensures { option_map command_told result
+        ≡ session_of name.now key_file.now uid.now gid.now (option_map (λ file. file.now) seed_file.entry) }
+{
+    if name != "session" {
         return None;
     }
     let who = Identity {
-        uid: id_of_word(uid.as_str())?,
-        gid: id_of_word(gid.as_str())?,
+        uid: id_of_word(uid)?,
+        gid: id_of_word(gid)?,
         control: false,
     };
     Some(SessionCommand {
-        key_file: key_file.as_str(),
+        key_file,
         who,
+        seed_file,
     })
 }
 

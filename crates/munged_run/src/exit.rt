@@ -1,9 +1,10 @@
 //! How the program ends.
 
 ghost use Rattle.std.specs.Prelude.{◌≡◌};
-ghost use Rattle.munged_run.specs.Exit.{exit_number, exit_after, exit_without};
+ghost use Rattle.munged_run.specs.Exit.{exit_number, exit_after, exit_unseeded, exit_without};
 
 use crate::key_file::NoKey;
+use crate::seed_file::NoSeed;
 use session_core::HowEnded;
 
 /// How the program ends, with the status that tells it.
@@ -13,10 +14,10 @@ pub enum Exit {
     Done = 0,
     /// The words ask for nothing that the program does.
     NoCommand = 1,
-    /// The key file could not be read.
+    /// The key file or the seed file could not be read.
     FileFault = 2,
-    /// The key file has fewer than 32 bytes, or more than 1024.
-    BadKey = 3,
+    /// The key file has fewer than 32 bytes, or more than 1024; or the seed file has fewer than 32.
+    BadKeyOrSeed = 3,
     /// A read of the input failed.
     ReadFault = 5,
     /// A write to the output failed.
@@ -53,8 +54,19 @@ impl Exit {
     {
         match key {
             NoKey::Unread => Exit::FileFault,
-            NoKey::Refused => Exit::BadKey,
+            NoKey::Refused => Exit::BadKeyOrSeed,
             NoKey::NoMemory => Exit::NoMemory,
+        }
+    }
+
+    /// How the program ends where a seed file is named and gives no seed.
+    pub fn unseeded(seed: NoSeed) -> Exit
+        ensures { result ≡ exit_unseeded seed }
+    {
+        match seed {
+            NoSeed::Unread => Exit::FileFault,
+            NoSeed::Short => Exit::BadKeyOrSeed,
+            NoSeed::NoMemory => Exit::NoMemory,
         }
     }
 

@@ -1,11 +1,12 @@
-//! The program of munged: `munged session KEYFILE UID GID` answers the decode requests of its
-//! standard input on its standard output.
+//! The program of munged: `munged session KEYFILE UID GID [SEEDFILE]` answers the encode and decode
+//! requests of its standard input on its standard output. Without a seed file nothing is sealed.
 #![tactic(auto)]
 
 mod command;
 mod exit;
 mod key_file;
 mod run;
+mod seed_file;
 #[cfg(test)]
 mod tests;
 

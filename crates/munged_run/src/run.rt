@@ -12,6 +12,7 @@ ghost use Rattle.munged_run.specs.WholeRequests.{WholeRequests, AnswersAll};
 use crate::command::command_of_words;
 use crate::exit::Exit;
 use crate::key_file::read_key;
+use crate::seed_file::read_seed;
 use byte_io::{Clock, Files, Sink, Source};
 use munge_types::Settings;
 use replay_table::PlainReplay;
@@ -50,7 +51,7 @@ pub fn munged_run<F: Files, I: Source, O: Sink, E: Sink, C: Clock>(
     ensures complete { (whole : WholeRequests (map string_bytes words.now) (F.files files.old) (I.left input.old))
         → ¬ (Rose (F.file_faults files.old) (F.file_faults files.new)) → ¬ (Rose (I.read_faults input.old) (I.read_faults input.new))
         → ¬ (Rose (O.write_faults out.old) (O.write_faults out.new)) → ¬ (Rose (C.clock_faults clock.old) (C.clock_faults clock.new))
-        → (result ≡ exit_number Exit.NoMemory) ⊎ ((result ≡ exit_number Exit.Done) × AnswersAll whole.key whole.command whole.texts
+        → (result ≡ exit_number Exit.NoMemory) ⊎ ((result ≡ exit_number Exit.Done) × AnswersAll whole.key whole.command whole.seed whole.requests
         (record { left = I.left input.old; taken = O.taken out.old; readings = C.readings clock.old })
         (record { left = I.left input.new; taken = O.taken out.new; readings = C.readings clock.new })) }
 
@@ -63,6 +64,10 @@ pub fn munged_run<F: Files, I: Source, O: Sink, E: Sink, C: Clock>(
     let subkeys = match read_key(alloc, files, command.key_file) {
         Ok(subkeys) => subkeys,
         Err(no_key) => return Exit::without(no_key).status(),
+    };
+    let seed = match read_seed(alloc, files, command.seed_file) {
+        Ok(seed) => seed,
+        Err(no_seed) => return Exit::unseeded(no_seed).status(),
     };
     let world = World {
         subkeys,
@@ -77,7 +82,7 @@ pub fn munged_run<F: Files, I: Source, O: Sink, E: Sink, C: Clock>(
         &mut replay,
         command.who,
         &world,
-        None,
+        seed,
     );
     Exit::after(end.how).status()
 }

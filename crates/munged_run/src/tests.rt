@@ -4,5 +4,6 @@ mod credential;
 mod faults;
 mod fixture;
 mod requests;
+mod sealing;
 mod turns;
 mod words;

@@ -1,3 +1,4 @@
+pub mod AnswerLemmas
 pub mod EndLemmas
 pub mod KeptLemmas
 pub mod OneLemmas

@@ -13,8 +13,8 @@ use Rattle.cred_open.specs.Credential.{Credential, pair_of}
 use Rattle.session_core.specs.DecodeReply.{verdict_reply, unsaid_reply}
 use Rattle.session_core.specs.DecodeRules.{Ready}
 use Rattle.session_core.specs.Prepared.{IsReady}
-use Rattle.session_core.specs.SessionRun.{before_answer}
-use Rattle.session_core.specs.Turn.{IsAnswered, IsPurged}
+use Rattle.session_core.specs.SessionRun.{before_decode}
+use Rattle.session_core.specs.Turn.{IsDecoded, IsPurged}
 
 -- A credential that was ready was looked up, and its reply was completed.
 pub answered_ready : (key : List ℕ) (settings : Settings) (who : Identity) (base own : List Event) (moment more entries floor before : ℕ) (kept held : List Pair) (text reply : List ℕ) (pair : Pair) (unsaid : List ℕ) (said : Verdict)
@@ -24,14 +24,14 @@ pub answered_ready : (key : List ℕ) (settings : Settings) (who : Identity) (ba
     → ((history : List Event) → StandsFor before held history → said ≡ verdict history pair moment)
     → ((history : List Event) (pass : ℕ) → StandsFor before held history → StandsFor floor kept (history ++ Admit pass pair moment ∷ []))
     → ((credential : Credential) → unsaid ≡ unsaid_reply credential → reply ≡ verdict_reply said (entries + more) credential)
-    → IsAnswered key settings who base own moment text reply (entries + more + 1) floor kept
+    → IsDecoded key settings who base own moment text reply (entries + more + 1) floor kept
 answered_ready key settings who base own moment more entries floor before kept held text reply pair unsaid said count purged ready says stands completed =
-    let events : List Event = before_answer base own moment in
+    let events : List Event = before_decode base own moment in
     let credential = ready.credential in
     let placed : entries + more ≡ length events = omega (arith, count, purged.count) in
     record {
       next = events ++ Admit 0 pair moment ∷ [];
-      answers = record {
+      decodes = record {
         finding = Ready credential;
         finds = ready.finds;
         reply_is = completed credential ready.reply_is

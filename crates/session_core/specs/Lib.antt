@@ -2,9 +2,14 @@ pub mod AllLive
 pub mod ClientMessage
 pub mod DecodeReply
 pub mod DecodeRules
+pub mod EncodeReply
+pub mod EncodeRequest
 pub mod Prepared
 pub mod Reading
+pub mod RequestHead
+pub mod RequestTold
 pub mod RunSoFar
+pub mod Seed
 pub mod SessionRan
 pub mod SessionRun
 pub mod Turn

@@ -41,12 +41,12 @@ ReadsNone NoMemory left left' faults faults' ends ends' = Reads left left' IsReq
 abbrev pub IsShorter : ℕ → List ℕ → Type 0
 IsShorter size bytes = length bytes < size
 
--- What was read of a text of this size, for each cause.
-abbrev pub StopsInText : Unread → ℕ → (left left' : Option (List ℕ)) → (faults faults' ends ends' : ℕ) → Type 0
-StopsInText Ended size left left' faults faults' ends ends' = ⊥
-StopsInText Malformed size left left' faults faults' ends ends' = Reads left left' (IsShorter size) × (faults' ≡ faults) × CameToEnd ends ends' left'
-StopsInText ReadFault size left left' faults faults' ends ends' = Reads left left' (IsShorter size) × Rose faults faults'
-StopsInText NoMemory size left left' faults faults' ends ends' = Keeps left left' × (faults' ≡ faults)
+-- What was read of a body of this size, for each cause.
+abbrev pub StopsInBody : Unread → ℕ → (left left' : Option (List ℕ)) → (faults faults' ends ends' : ℕ) → Type 0
+StopsInBody Ended size left left' faults faults' ends ends' = ⊥
+StopsInBody Malformed size left left' faults faults' ends ends' = Reads left left' (IsShorter size) × (faults' ≡ faults) × CameToEnd ends ends' left'
+StopsInBody ReadFault size left left' faults faults' ends ends' = Reads left left' (IsShorter size) × Rose faults faults'
+StopsInBody NoMemory size left left' faults faults' ends ends' = Keeps left left' × (faults' ≡ faults)
 
 -- how a session ends for each cause, where the request begins at this byte of the input
 abbrev pub how_of : Unread → (begins : ℕ) → HowEnded

@@ -7,9 +7,9 @@ use Rattle.munge_types.specs.declared.history.Event.{Event}
 use Rattle.munge_types.specs.declared.identity.Identity.{Identity}
 use Rattle.munge_types.specs.declared.pair.Pair.{Pair}
 use Rattle.munge_types.specs.declared.settings.Settings.{Settings}
-use Rattle.session_core.specs.ClientMessage.{decode_request, decode_requests, IsRequestPrefix, body_limit}
+use Rattle.session_core.specs.ClientMessage.{Request, IsRequest, IsRequestPrefix, message, messages}
 use Rattle.session_core.specs.Reading.{IsNoRequest, IsUnfinished}
-use Rattle.session_core.specs.SessionRun.{Answers, Run, before_answer}
+use Rattle.session_core.specs.SessionRun.{Answers, Own, Run, before_answer, nothing_done}
 use Rattle.session_core.specs.declared.end.HowEnded.{HowEnded}
 use Rattle.session_core.specs.declared.end.HowEnded.TheVariants.{Done, ReadFault, WriteFault, ClockFault, Malformed, Budget, NoMemory}
 use Rattle.session_core.specs.declared.end.SessionEnd.{SessionEnd}
@@ -58,40 +58,50 @@ pub record IsUntouched (own : List Event) (beyond : Beyond) : Type 0 where
 
 -- a whole request was read
 pub record IsWholeRequest (read : List ℕ) : Type 0 where
-  pub text : List ℕ
-  pub within : length text ≤ body_limit
-  pub read_is : read ≡ decode_request text
+  pub request : Request
+  pub fits : IsRequest request
+  pub read_is : read ≡ message request
 
 -- a whole request was answered in full, but for the end of its reply, which did not go out
-pub record IsCutOff (key : List ℕ) (settings : Settings) (who : Identity) (base own : List Event) (beyond : Beyond) : Type 0 where
-  pub text : List ℕ
-  pub within : length text ≤ body_limit
-  pub read_is : beyond.read ≡ decode_request text
+pub record IsCutOff (key : List ℕ) (settings : Settings) (who : Identity) (seed : Option (List ℕ)) (base : List Event) (own : Own) (beyond : Beyond) : Type 0 where
+  pub request : Request
+  pub fits : IsRequest request
+  pub read_is : beyond.read ≡ message request
   pub moment : ℕ
   pub readings_are : beyond.readings ≡ moment ∷ []
   pub reply : List ℕ
-  pub answers : Answers key settings who base own moment text reply beyond.events
+  pub next : Own
+  pub answers : Answers key settings who seed base own moment request reply next
+  pub events_are : beyond.events ≡ next.events
   pub written_is : IsProperPrefix beyond.written reply
 
--- nothing was written of the next reply; where the request was read whole, a reading may have been
--- taken for it, and a purge made
+-- a whole request was read and a reading taken for it, and there was no more of it than the purge
+-- that comes before a decode request
+pub record IsUnanswered (base own : List Event) (beyond : Beyond) : Type 0 where
+  pub request : Request
+  pub fits : IsRequest request
+  pub read_is : beyond.read ≡ message request
+  pub moment : ℕ
+  pub readings_are : beyond.readings ≡ moment ∷ []
+  pub events_are : beyond.events ≡ before_answer base own moment request
+
+-- nothing was written of the next reply, whether the request was read whole or not
 pub record IsGivenUp (base own : List Event) (beyond : Beyond) : Type 0 where
   pub written_none : beyond.written ≡ []
-  pub events_are : ((beyond.readings ≡ []) × (beyond.events ≡ own))
-      ⊎ ((moment : ℕ) × (beyond.readings ≡ moment ∷ []) × (beyond.events ≡ before_answer base own moment) × IsWholeRequest beyond.read)
+  pub events_are : ((beyond.readings ≡ []) × (beyond.events ≡ own)) ⊎ IsUnanswered base own beyond
 
 -- What a session had done of the next request, for each way to end. The answers so far end at the
 -- byte `begins` of the input, which came to its end where `ended` holds.
-abbrev pub Leaves : (key : List ℕ) → Settings → Identity → (base own : List Event) → (answered begins : ℕ) → (ended : Type 0) → HowEnded → Beyond → Type 0
-Leaves key settings who base own answered begins ended Done beyond = (beyond.read ≡ []) × ended × IsUntouched own beyond
-Leaves key settings who base own answered begins ended ReadFault beyond = IsUnfinished beyond.read × IsUntouched own beyond
-Leaves key settings who base own answered begins ended WriteFault beyond = IsCutOff key settings who base own beyond
-Leaves key settings who base own answered begins ended ClockFault beyond = IsWholeRequest beyond.read × IsUntouched own beyond
-Leaves key settings who base own answered begins ended (Malformed place) beyond =
-    (place ≡ begins) × IsNoRequest ended beyond.read × IsUntouched own beyond
-Leaves key settings who base own answered begins ended Budget beyond =
-    (answered ≡ request_limit) × (length beyond.read ≡ 1) × IsUntouched own beyond
-Leaves key settings who base own answered begins ended NoMemory beyond = IsRequestPrefix beyond.read × IsGivenUp base own beyond
+abbrev pub Leaves : (key : List ℕ) → Settings → Identity → (seed : Option (List ℕ)) → (base : List Event) → (own : Own) → (answered begins : ℕ) → (ended : Type 0) → HowEnded → Beyond → Type 0
+Leaves key settings who seed base own answered begins ended Done beyond = (beyond.read ≡ []) × ended × IsUntouched own.events beyond
+Leaves key settings who seed base own answered begins ended ReadFault beyond = IsUnfinished beyond.read × IsUntouched own.events beyond
+Leaves key settings who seed base own answered begins ended WriteFault beyond = IsCutOff key settings who seed base own beyond
+Leaves key settings who seed base own answered begins ended ClockFault beyond = IsWholeRequest beyond.read × IsUntouched own.events beyond
+Leaves key settings who seed base own answered begins ended (Malformed place) beyond =
+    (place ≡ begins) × IsNoRequest ended beyond.read × IsUntouched own.events beyond
+Leaves key settings who seed base own answered begins ended Budget beyond =
+    (answered ≡ request_limit) × (length beyond.read ≡ 1) × IsUntouched own.events beyond
+Leaves key settings who seed base own answered begins ended NoMemory beyond = IsRequestPrefix beyond.read × IsGivenUp base own.events beyond
 
 -- after the last request that a session may answer it asks the input for one byte, and does nothing else
 abbrev pub AsksForOne : HowEnded → (read : List ℕ) → Type 0
@@ -103,19 +113,20 @@ AsksForOne ClockFault read = ⊥
 AsksForOne (Malformed place) read = ⊥
 AsksForOne NoMemory read = ⊥
 
--- A session under this key, for this caller, that began with a state for the base history and came to this end.
-pub record SessionRan (key : List ℕ) (settings : Settings) (who : Identity) (base : List Event) (end : SessionEnd) (before after : Things) (ended : Type 0) : Type 0 where
-  -- the texts of the requests that were answered, their moments, the replies, and the session's own events
-  pub texts : List (List ℕ)
+-- A session under this key, for this caller, with this seed if there is one, that began with a state
+-- for the base history and came to this end.
+pub record SessionRan (key : List ℕ) (settings : Settings) (who : Identity) (seed : Option (List ℕ)) (base : List Event) (end : SessionEnd) (before after : Things) (ended : Type 0) : Type 0 where
+  -- the requests that were answered, their moments, the replies, and what the session did of its own
+  pub requests : List Request
   pub moments : List ℕ
   pub replies : List ℕ
-  pub own : List Event
-  pub answered : length texts ≡ end.answered
+  pub own : Own
+  pub answered : length requests ≡ end.answered
   pub within : end.answered ≤ request_limit
-  pub requests : AllByRecursion (λ text. length text ≤ body_limit) texts
-  pub run : Run key settings who base [] texts moments replies own
+  pub fit : AllByRecursion IsRequest requests
+  pub run : Run key settings who seed base nothing_done requests moments replies own
   -- what was done of the next one
   pub beyond : Beyond
-  pub leaves : Leaves key settings who base own end.answered (length (decode_requests texts)) ended end.how beyond
+  pub leaves : Leaves key settings who seed base own end.answered (length (messages requests)) ended end.how beyond
   pub at_limit : end.answered ≡ request_limit → AsksForOne end.how beyond.read
-  pub moves : Moves before after (decode_requests texts ++ beyond.read) (replies ++ beyond.written) (moments ++ beyond.readings) (base ++ beyond.events)
+  pub moves : Moves before after (messages requests ++ beyond.read) (replies ++ beyond.written) (moments ++ beyond.readings) (base ++ beyond.events)

@@ -1,6 +1,9 @@
-//! One session: decode requests are read from a stream, and each is answered on another.
+//! One session: encode and decode requests are read from a stream, and each is answered on another.
 #![tactic(auto)]
 
+mod answer;
+mod decode;
+mod encode;
 mod end;
 pub mod laws;
 mod prepare;

@@ -1,6 +1,6 @@
 //! A session: the loop over the requests of a stream.
 
-ghost use Rattle.std.specs.Prelude.{◌≡◌, ◌≢◌, ℕ, ◌≤◌, List};
+ghost use Rattle.std.specs.Prelude.{◌≡◌, ◌≢◌, ℕ, List};
 ghost use Rattle.byte_io.specs.Counts.{Rose};
 ghost use Rattle.munge_types.specs.StandsFor.{StandsFor};
 ghost use Rattle.munge_types.specs.declared.history.Event.{Event};
@@ -9,20 +9,24 @@ ghost use Rattle.session_core.specs.SessionRan.{SessionRan};
 ghost use Rattle.session_core.specs.AllLive.{AllLive};
 ghost use Rattle.session_core.specs.Reading.{CameToEnd};
 ghost use Rattle.session_core.specs.RunSoFar.{OverBudget};
+ghost use Rattle.session_core.specs.Seed.{place_of, seed_of};
 
 use crate::turn::{Position, take_turn};
 use crate::{HowEnded, SessionEnd, World};
 use byte_io::{Clock, FullRead, Sink, Source, read_full};
+use cred_seal::Dice;
 use munge_types::{Identity, Replay};
 use std::alloc::Global;
 
 /// The most requests that one session answers.
 const REQUEST_LIMIT: u32 = 1_048_576;
 
-/// Reads decode requests from `input`, one after another, and writes a reply to each to `out`, until
-/// the input ends between two of them, something fails, or 1,048,576 requests are answered and one
-/// more byte comes. For each request the clock is read once. A session that ended by a fault or for
-/// want of memory writes nothing more. There is no seed yet, as nothing is sealed.
+/// Reads encode and decode requests from `input`, one after another, and writes a reply to each to
+/// `out`, until the input ends between two of them, something fails, or 1,048,576 requests are
+/// answered and one more byte comes. For each request the clock is read once, after it was read
+/// whole. Salts and initial vectors are drawn from the seed of 32 bytes, from its first word on;
+/// without a seed nothing is sealed. A session that ended by a fault or for want of memory writes
+/// nothing more.
 pub fn session<I: Source, O: Sink, C: Clock, R: Replay>(
     alloc: Global,
     input: &mut I,
@@ -33,12 +37,10 @@ pub fn session<I: Source, O: Sink, C: Clock, R: Replay>(
     world: &World,
     seed: Option<[u8; 32]>,
 ) -> SessionEnd
-    requires { seed ≡ None }
-
     // For each key that the subkeys are of, and each history that the state stands for at entry.
     ensures ran { (key : List ℕ) (base : List Event) → IsOf world.now.subkeys key
         → StandsFor (R.floor_moment replay.old) (R.kept_pairs replay.old) base
-        → SessionRan key world.now.settings who base result
+        → SessionRan key world.now.settings who seed base result
         (record { left = I.left input.old; taken = O.taken out.old; readings = C.readings clock.old; floor = R.floor_moment replay.old; kept = R.kept_pairs replay.old })
         (record { left = I.left input.new; taken = O.taken out.new; readings = C.readings clock.new; floor = R.floor_moment replay.new; kept = R.kept_pairs replay.new })
         (CameToEnd (I.ends input.old) (I.ends input.new) (I.left input.new)) }
@@ -56,13 +58,13 @@ pub fn session<I: Source, O: Sink, C: Clock, R: Replay>(
     ensures writes_sound { result.how ≢ HowEnded.WriteFault → O.write_faults out.new ≡ O.write_faults out.old }
     ensures clock_sound { result.how ≢ HowEnded.ClockFault → C.clock_faults clock.new ≡ C.clock_faults clock.old }
 {
-    let _ = seed;
+    let mut dice = dice_of(seed);
     let mut at = Position {
         begins: 0,
         entries: 0,
     };
     'requests: for answered in 0..REQUEST_LIMIT {
-        match take_turn(alloc, input, out, clock, replay, who, world, at) {
+        match take_turn(alloc, input, out, clock, replay, &mut dice, who, world, at) {
             Ok(next) => at = next,
             Err(how) => return SessionEnd { answered, how },
         }
@@ -70,6 +72,17 @@ pub fn session<I: Source, O: Sink, C: Clock, R: Replay>(
     SessionEnd {
         answered: REQUEST_LIMIT,
         how: end_of_budget(input),
+    }
+}
+
+/// The dice of a seed, if there is one, at its first word.
+fn dice_of(seed: Option<[u8; 32]>) -> Option<Dice>
+    ensures seed { seed_of result ≡ seed }
+    ensures place { place_of result ≡ 0 }
+{
+    match seed {
+        Some(seed) => Some(Dice::new(seed)),
+        None => None,
     }
 }
 

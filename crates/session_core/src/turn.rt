@@ -1,27 +1,26 @@
 //! One request of a session: reading it, answering it, and writing the reply.
 
-ghost use Rattle.std.specs.Prelude.{◌≡◌, ◌≢◌, ℕ, ◌+◌, ◌<◌, ◌≤◌, ◌^◌, ◌++◌, List, length, MatchResult, IfOk, OnErr};
+ghost use Rattle.std.specs.Prelude.{◌≡◌, ◌≢◌, ℕ, ◌+◌, ◌<◌, ◌≤◌, ◌^◌, ◌++◌, List, length, MatchResult, IfOk};
 ghost use Rattle.byte_io.specs.Counts.{Rose};
 ghost use Rattle.munge_types.specs.StandsFor.{StandsFor};
 ghost use Rattle.munge_types.specs.declared.history.Event.{Event};
 ghost use Rattle.subkeys.specs.Subkeys.{IsOf};
 ghost use Rattle.session_core.specs.AllLive.{AllLive};
 ghost use Rattle.session_core.specs.Reading.{CameToEnd, how_of};
-ghost use Rattle.session_core.specs.SessionRun.{before_answer};
-ghost use Rattle.session_core.specs.Turn.{Answered, Ended, IsAnswered, IsPurged};
+ghost use Rattle.session_core.specs.Seed.{place_of, seed_of};
+ghost use Rattle.session_core.specs.SessionRun.{Own};
+ghost use Rattle.session_core.specs.Turn.{Answered, Ended};
 
-use crate::prepare::{Prepared, prepare};
+use crate::answer::make_answer;
 use crate::request::{Unread, read_request};
 use crate::{HowEnded, World};
 use byte_io::{AllWritten, Clock, Sink, Source, write_all};
-use munge_types::{Identity, NoMemory, Replay};
+use cred_seal::Dice;
+use munge_types::{Identity, Replay};
 use std::alloc::Global;
 
-/// The bytes of a request before its text.
+/// The bytes of a request before its body.
 const HEAD: u64 = 7;
-
-/// How far the moment has to be above the floor for a purge to come before an answer, in seconds.
-const PURGE_INTERVAL: u32 = 60;
 
 /// Where a session stands between two requests.
 #[derive(Clone, Copy, Debug, PartialEq, Eq)]
@@ -39,6 +38,7 @@ pub(crate) fn take_turn<I: Source, O: Sink, C: Clock, R: Replay>(
     out: &mut O,
     clock: &mut C,
     replay: &mut R,
+    dice: &mut Option<Dice>,
     who: Identity,
     world: &World,
     at: Position,
@@ -46,17 +46,19 @@ pub(crate) fn take_turn<I: Source, O: Sink, C: Clock, R: Replay>(
     requires far_from_end { at.begins + 2097159 < 2 ^ 64 }
     requires few_entries { at.entries + 2 < 2 ^ 64 }
 
-    ensures turned { (key : List ℕ) (base own : List Event) → IsOf world.now.subkeys key
-        → StandsFor (R.floor_moment replay.old) (R.kept_pairs replay.old) (base ++ own) → length own ≡ at.entries
+    ensures turned { (key : List ℕ) (base : List Event) (own : Own) → IsOf world.now.subkeys key
+        → StandsFor (R.floor_moment replay.old) (R.kept_pairs replay.old) (base ++ own.events)
+        → length own.events ≡ at.entries → own.place ≡ place_of dice.old
         → MatchResult result
-        (Answered key world.now.settings who base own
+        (Answered key world.now.settings who (seed_of dice.old) base own
         (record { left = I.left input.old; taken = O.taken out.old; readings = C.readings clock.old; floor = R.floor_moment replay.old; kept = R.kept_pairs replay.old })
         (record { left = I.left input.new; taken = O.taken out.new; readings = C.readings clock.new; floor = R.floor_moment replay.new; kept = R.kept_pairs replay.new })
-        at)
-        (Ended key world.now.settings who base own
+        at (place_of dice.new))
+        (Ended key world.now.settings who (seed_of dice.old) base own
         (record { left = I.left input.old; taken = O.taken out.old; readings = C.readings clock.old; floor = R.floor_moment replay.old; kept = R.kept_pairs replay.old })
         (record { left = I.left input.new; taken = O.taken out.new; readings = C.readings clock.new; floor = R.floor_moment replay.new; kept = R.kept_pairs replay.new })
         at.begins (CameToEnd (I.ends input.old) (I.ends input.new) (I.left input.new))) }
+    ensures same_seed { seed_of dice.new ≡ seed_of dice.old }
     ensures begins_bound { IfOk result (λ next. next.begins ≤ at.begins + 2097159) }
     ensures entries_bound { IfOk result (λ next. next.entries ≤ at.entries + 2) }
 
@@ -73,19 +75,21 @@ pub(crate) fn take_turn<I: Source, O: Sink, C: Clock, R: Replay>(
         → AllLive (R.floor_moment replay.old) (R.kept_pairs replay.old)
         → AllLive (R.floor_moment replay.new) (R.kept_pairs replay.new) }
 {
-    let text = match read_request(alloc, input) {
-        Ok(text) => text,
+    let request = match read_request(alloc, input) {
+        Ok(request) => request,
         Err(cause) => return Err(ended_by(cause, at.begins)),
     };
     let Ok(moment) = clock.now() else {
         return Err(HowEnded::ClockFault);
     };
-    let Ok(answer) = make_answer(alloc, replay, who, world, moment, &text, at.entries) else {
+    let Ok(answer) = make_answer(
+        alloc, replay, dice, who, world, moment, &request, at.entries,
+    ) else {
         return Err(HowEnded::NoMemory);
     };
     match write_all(out, &answer.reply) {
         AllWritten::All => Ok(Position {
-            begins: at.begins + HEAD + text.len() as u64,
+            begins: at.begins + HEAD + request.body().len() as u64,
             entries: answer.entries,
         }),
         AllWritten::Failed(_) => Err(HowEnded::WriteFault),
@@ -101,68 +105,5 @@ fn ended_by(cause: Unread, begins: u64) -> HowEnded
         Unread::Malformed => HowEnded::Malformed(begins),
         Unread::ReadFault => HowEnded::ReadFault,
         Unread::NoMemory => HowEnded::NoMemory,
-    }
-}
-
-/// Makes the purge that comes before an answer at this moment, if one is due. Returns how many
-/// events that are.
-fn purge_if_due<R: Replay>(replay: &mut R, moment: u32) -> u64
-    ensures bound { result ≤ 1 }
-    ensures live { AllLive (R.floor_moment replay.old) (R.kept_pairs replay.old)
-        → AllLive (R.floor_moment replay.new) (R.kept_pairs replay.new) }
-    ensures purged { (base own : List Event) → StandsFor (R.floor_moment replay.old) (R.kept_pairs replay.old) (base ++ own)
-        → IsPurged (R.floor_moment replay.new) (R.kept_pairs replay.new) base own moment result }
-{
-    let floor = replay.floor();
-    if moment < floor || moment - floor < PURGE_INTERVAL {
-        return 0;
-    }
-    let _ = replay.purge(moment, u32::MAX);
-    1
-}
-
-/// A reply, and the session's own events up to it.
-#[derive(Drop)]
-struct Answer {
-    reply: Vec<u8>,
-    entries: u64,
-}
-
-/// Answers a decode request with this text at this moment, after so many events of the session's
-/// own.
-fn make_answer<R: Replay>(
-    alloc: Global,
-    replay: &mut R,
-    who: Identity,
-    world: &World,
-    moment: u32,
-    text: &[u8],
-    entries: u64,
-) -> Result<Answer, NoMemory>
-    requires { entries + 2 < 2 ^ 64 }
-    ensures answered { (key : List ℕ) (base own : List Event) → IsOf world.now.subkeys key
-        → StandsFor (R.floor_moment replay.old) (R.kept_pairs replay.old) (base ++ own) → length own ≡ entries
-        → IfOk result (λ answer. IsAnswered key world.now.settings who base own moment text.now answer.reply.items answer.entries
-        (R.floor_moment replay.new) (R.kept_pairs replay.new)) }
-    ensures given_up { (base own : List Event)
-        → StandsFor (R.floor_moment replay.old) (R.kept_pairs replay.old) (base ++ own)
-        → OnErr result (StandsFor (R.floor_moment replay.new) (R.kept_pairs replay.new) (base ++ before_answer base own moment)) }
-    ensures bound { IfOk result (λ answer. answer.entries ≤ entries + 2) }
-    ensures live { (history : List Event)
-        → StandsFor (R.floor_moment replay.old) (R.kept_pairs replay.old) history
-        → AllLive (R.floor_moment replay.old) (R.kept_pairs replay.old)
-        → AllLive (R.floor_moment replay.new) (R.kept_pairs replay.new) }
-{
-    let entries = entries + purge_if_due(replay, moment);
-    match prepare(alloc, world, who, moment, text)? {
-        Prepared::Refused(reply) => Ok(Answer { reply, entries }),
-        Prepared::Ready(ready) => {
-            let verdict = replay.admit(&ready.pair, moment)?;
-            let reply = ready.complete(verdict, entries);
-            Ok(Answer {
-                reply,
-                entries: entries + 1,
-            })
-        }
     }
 }

@@ -1,4 +1,4 @@
-//! What a session opens credentials with.
+//! What a session seals and opens credentials with.
 
 use munge_types::Settings;
 use subkeys::Subkeys;
@@ -8,6 +8,6 @@ use subkeys::Subkeys;
 pub struct World {
     /// The subkeys of the key file.
     pub subkeys: Subkeys,
-    /// The times that opening goes by.
+    /// The times that sealing and opening go by.
     pub settings: Settings,
 }

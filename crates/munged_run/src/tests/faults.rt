@@ -8,7 +8,7 @@ const REPLY: &[u8] = b"\x4d\x01\x04\x00\x00\x00\x0a\x08\x01\xff\xff\xff\xff\xff\
 
 #[test]
 fn input_that_is_no_request(rt: HostRuntime) -> Result<(), Fail> {
-    let table: [(&[u8], usize, u8); 8] = [
+    let table: [(&[u8], usize, u8); 11] = [
         (b"", 0, 0),
         (b"\x4d\x01\x03\x00\x00\x00\x00", 1, 0),
         (b"\x4d\x01\x03\x00\x00\x00\x00\x4d\x01\x03\x00\x00", 1, 9),
@@ -17,6 +17,13 @@ fn input_that_is_no_request(rt: HostRuntime) -> Result<(), Fail> {
         (b"\x4d\x02\x03\x00\x00\x00\x00", 0, 9),
         (b"\x4d\x01\x05\x00\x00\x00\x00", 0, 9),
         (b"\x4d\x01\x03\x00\x20\x00\x01", 0, 9),
+        (b"\x4d\x01\x01\x00\x20\x00\x01", 0, 9),
+        (
+            b"\x4d\x01\x01\x00\x00\x00\x0d\x00\x05\x00\x00\x00\x00\xff\xff\xff\xff\xff\xff\xff",
+            0,
+            9,
+        ),
+        (b"\x4d\x01\x02\x00\x00\x00\x01\x00", 0, 9),
     ];
     for (input, replies, status) in table {
         let mut run = Run::new(rt.alloc())?;

@@ -22,6 +22,8 @@ pub(super) struct Run {
     pub(super) words: String,
     /// The bytes of the file `key`.
     pub(super) key: Vec<u8>,
+    /// The bytes of the file `seed`, if there is one.
+    pub(super) seed: Option<Vec<u8>>,
     pub(super) input: Vec<u8>,
     /// The readings of the clock.
     pub(super) readings: Vec<u32>,
@@ -41,6 +43,7 @@ impl Run {
             alloc,
             words: String::from_str(alloc, "session\nkey\n7\n7")?,
             key: Vec::from_slice(alloc, &KEY)?,
+            seed: None,
             input: Vec::new(alloc),
             readings: Vec::new(alloc),
             failing_read: 0,
@@ -48,6 +51,31 @@ impl Run {
             failing_file: 0,
             output: Vec::new(alloc),
         })
+    }
+
+    /// Names the seed file `seed` in the words, and puts these bytes into it.
+    pub(super) fn seed_with(&mut self, bytes: &[u8]) -> Result<(), AllocError> {
+        self.words.push_str("\nseed")?;
+        self.seed = Some(Vec::from_slice(self.alloc, bytes)?);
+        Ok(())
+    }
+
+    /// An encode request with this body at this moment, and the reply that is wanted.
+    pub(super) fn encode_turn(
+        &mut self,
+        moment: u32,
+        body: &[u8],
+        status: u8,
+        text: &[u8],
+    ) -> Result<(), AllocError> {
+        self.readings.push(moment)?;
+        self.input.extend_from_slice(b"\x4d\x01\x01")?;
+        push_size(&mut self.input, body.len())?;
+        self.input.extend_from_slice(body)?;
+        self.output.extend_from_slice(b"\x4d\x01\x02")?;
+        push_size(&mut self.output, text.len().saturating_add(1))?;
+        self.output.push(status)?;
+        self.output.extend_from_slice(text)
     }
 
     /// A decode request with this text at this moment, and the reply that is wanted.
@@ -82,12 +110,12 @@ impl Run {
         for word in self.words.as_str().lines() {
             words.push(String::from_str(alloc, word)?)?;
         }
-        let key = NamedFile {
-            name: String::from_str(alloc, "key")?,
-            bytes: self.key.clone()?,
-        };
+        let mut named = vec![in alloc; named_file(alloc, "key", &self.key)?]?;
+        if let Some(seed) = &self.seed {
+            named.push(named_file(alloc, "seed", seed)?)?;
+        }
         let fails = vec![in alloc; self.failing_file]?;
-        let mut files = MemFiles::new(vec![in alloc; key]?, fails);
+        let mut files = MemFiles::new(named, fails);
         let fails = vec![in alloc; self.failing_read]?;
         let mut input = MemSource::new(self.input.clone()?, 5, fails);
         let mut out = MemSink::new(alloc, vec![in alloc; self.failing_write]?);
@@ -101,6 +129,14 @@ impl Run {
         assert!(rt; err.taken().is_empty(), "the errors of {row}");
         Ok(())
     }
+}
+
+/// A file with this name and these bytes.
+fn named_file(alloc: Global, name: &str, bytes: &[u8]) -> Result<NamedFile, AllocError> {
+    Ok(NamedFile {
+        name: String::from_str(alloc, name)?,
+        bytes: Vec::from_slice(alloc, bytes)?,
+    })
 }
 
 /// A size of four bytes.

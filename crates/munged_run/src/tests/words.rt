@@ -1,4 +1,4 @@
-//! The words of the command line, and the key file.
+//! The words of the command line, the key file and the seed file.
 
 use super::fixture::Run;
 use std::test::Fail;
@@ -9,7 +9,10 @@ fn words_of_the_command_line(rt: HostRuntime) -> Result<(), Fail> {
         ("", 1),
         ("session", 1),
         ("session\nkey\n7", 1),
-        ("session\nkey\n7\n7\nseed", 1),
+        ("session\nkey\n7\n7\nseed\nmore", 1),
+        ("session\nkey\n7\n7\nseed", 2),
+        ("session\nkey\n7\n4294967295\nseed", 1),
+        ("sessions\nkey\n7\n7\nseed", 1),
         ("sessions\nkey\n7\n7", 1),
         ("Session\nkey\n7\n7", 1),
         ("\nkey\n7\n7", 1),
@@ -51,6 +54,29 @@ fn key_files(rt: HostRuntime) -> Result<(), Fail> {
         run.key = vec![in rt.alloc(); 0xab; size]?;
         run.failing_file = fails;
         run.assert_ends(&rt, status, "a key file")?;
+    }
+    Ok(())
+}
+
+#[test]
+fn seed_files(rt: HostRuntime) -> Result<(), Fail> {
+    // The bytes of the key file and of the seed file, the read of a file that fails, and the status.
+    for (key, seed, fails, status) in [
+        (32, 0, 0, 3),
+        (32, 31, 0, 3),
+        (32, 32, 0, 0),
+        (32, 33, 0, 0),
+        (32, 32, 2, 2),
+        (32, 31, 2, 2),
+        (32, 31, 1, 2),
+        (31, 32, 2, 3),
+    ] {
+        let mut run = Run::new(rt.alloc())?;
+        run.key = vec![in rt.alloc(); 0xab; key]?;
+        let seed = vec![in rt.alloc(); 0; seed]?;
+        run.seed_with(&seed)?;
+        run.failing_file = fails;
+        run.assert_ends(&rt, status, "a seed file")?;
     }
     Ok(())
 }

@@ -6,8 +6,9 @@ use Rattle.session_core.proofs.run.session.Goals as goal
 
 pub requests-init : goal.requests-init
 requests-init g c = record {
-  so_far = λ key base is stands. run_none key _ _ base _ stands;
+  so_far = λ key base is stands. rw c.dice_of-dice.ensures.place (run_none key _ _ _ base _ stands);
   live = λ key base is stands live. live;
+  same_seed = c.dice_of-dice.ensures.seed;
   begins_bound = omega arith;
   entries_bound = omega arith;
   reads_sound = refl;
@@ -20,8 +21,9 @@ pub requests-preserved : goal.requests-preserved
 requests-preserved g c = record {
   so_far = λ key base is stands.
       let so_far = c.requests.invariant.so_far key base is stands in
-      so_far_more key _ _ base _ _ _ c.requests.answered _ _ so_far
-      (c.in-Ok.ensures.turned key base so_far.own is so_far.moves.stands so_far.entries_is);
+      so_far_more key _ _ _ base _ _ _ c.requests.answered _ _ _ _ so_far
+      (rw c.requests.invariant.same_seed at (c.in-Ok.ensures.turned key base so_far.own is so_far.moves.stands so_far.entries_is so_far.place_is));
+  same_seed = c.in-Ok.ensures.same_seed ∙ c.requests.invariant.same_seed;
   live = λ key base is stands live.
       let so_far = c.requests.invariant.so_far key base is stands in
       c.in-Ok.ensures.live _ so_far.moves.stands (c.requests.invariant.live key base is stands live);
@@ -36,15 +38,15 @@ requests-preserved g c = record {
 pub returns-in-Err-clause-ran : goal.returns-in-Err-clause-ran
 returns-in-Err-clause-ran g c = λ key base is stands.
     let so_far = c.requests.invariant.so_far key base is stands in
-    so_far_ended key _ _ base _ _ _ c.requests.answered _ c.in-Err.how (omega arith)
+    so_far_ended key _ _ _ base _ _ _ c.requests.answered _ _ c.in-Err.how (omega arith)
     (λ end. (≤-Rose _ _ _ c.requests.invariant.ends_stay end.0, end.1)) so_far
-    (c.in-Err.ensures.turned key base so_far.own is so_far.moves.stands so_far.entries_is)
+    (rw c.requests.invariant.same_seed at (c.in-Err.ensures.turned key base so_far.own is so_far.moves.stands so_far.entries_is so_far.place_is))
 
 pub returns-clause-ran : goal.returns-clause-ran
 returns-clause-ran g c = λ key base is stands.
     let all : c.requests.answered ≡ request_limit = omega arith in
     let so_far = rw all at (c.requests.invariant.so_far key base is stands) in
-    so_far_over key _ _ base _ _ _ _ c.end_of_budget.result
+    so_far_over key _ _ _ base _ _ _ _ _ c.end_of_budget.result
     (λ end. (≤-Rose _ _ _ c.requests.invariant.ends_stay end.0, end.1)) so_far c.end_of_budget.ensures.read
 
 pub returns-in-Err-clause-live : goal.returns-in-Err-clause-live

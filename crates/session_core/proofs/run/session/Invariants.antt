@@ -4,6 +4,7 @@ use Rattle.munge_types.specs.declared.history.Event.{Event}
 use Rattle.subkeys.specs.Subkeys.{IsOf}
 use Rattle.session_core.specs.AllLive.{AllLive}
 use Rattle.session_core.specs.RunSoFar.{RunSoFar}
+use Rattle.session_core.specs.Seed.{place_of, seed_of}
 use Rattle.session_core.proofs.run.session.Given as goal
 
 -- what was answered so far, for each key and base history, and that nothing has failed
@@ -11,10 +12,11 @@ abbrev pub invariant-requests : goal.invariant-requests
 invariant-requests g l = record {
   so_far : (key : List ℕ) (base : List Event) → IsOf l.world.subkeys key
       → StandsFor (g.R.Replay.floor_moment l.initial.replay) (g.R.Replay.kept_pairs l.initial.replay) base
-      → RunSoFar key l.world.settings l.who base
+      → RunSoFar key l.world.settings l.who l.fn.seed base
       (record { left = g.I.Source.left l.initial.input; taken = g.O.Sink.taken l.initial.out; readings = g.C.Clock.readings l.initial.clock; floor = g.R.Replay.floor_moment l.initial.replay; kept = g.R.Replay.kept_pairs l.initial.replay })
       (record { left = g.I.Source.left l.input; taken = g.O.Sink.taken l.out; readings = g.C.Clock.readings l.clock; floor = g.R.Replay.floor_moment l.replay; kept = g.R.Replay.kept_pairs l.replay })
-      l.answered l.at;
+      l.answered l.at (place_of l.dice);
+  same_seed : seed_of l.dice ≡ l.fn.seed;
   live : (key : List ℕ) (base : List Event) → IsOf l.world.subkeys key
       → StandsFor (g.R.Replay.floor_moment l.initial.replay) (g.R.Replay.kept_pairs l.initial.replay) base
       → AllLive (g.R.Replay.floor_moment l.initial.replay) (g.R.Replay.kept_pairs l.initial.replay)

@@ -1,0 +1,74 @@
+//! Answering a decode request.
+
+ghost use Rattle.std.specs.Prelude.{◌≡◌, ℕ, ◌+◌, ◌<◌, ◌≤◌, ◌^◌, ◌++◌, List, length, IfOk, OnErr};
+ghost use Rattle.munge_types.specs.StandsFor.{StandsFor};
+ghost use Rattle.munge_types.specs.declared.history.Event.{Event};
+ghost use Rattle.subkeys.specs.Subkeys.{IsOf};
+ghost use Rattle.session_core.specs.AllLive.{AllLive};
+ghost use Rattle.session_core.specs.SessionRun.{before_decode};
+ghost use Rattle.session_core.specs.Turn.{IsDecoded, IsPurged};
+
+use crate::World;
+use crate::answer::Answer;
+use crate::prepare::{Prepared, prepare};
+use munge_types::{Identity, NoMemory, Replay};
+use std::alloc::Global;
+
+/// How far the moment has to be above the floor for a purge to come before an answer, in seconds.
+const PURGE_INTERVAL: u32 = 60;
+
+/// Answers a decode request with this text at this moment, after so many events of the session's
+/// own.
+pub(crate) fn decode<R: Replay>(
+    alloc: Global,
+    replay: &mut R,
+    who: Identity,
+    world: &World,
+    moment: u32,
+    text: &[u8],
+    entries: u64,
+) -> Result<Answer, NoMemory>
+    requires { entries + 2 < 2 ^ 64 }
+    ensures decoded { (key : List ℕ) (base own : List Event) → IsOf world.now.subkeys key
+        → StandsFor (R.floor_moment replay.old) (R.kept_pairs replay.old) (base ++ own) → length own ≡ entries
+        → IfOk result (λ answer. IsDecoded key world.now.settings who base own moment text.now answer.reply.items answer.entries
+        (R.floor_moment replay.new) (R.kept_pairs replay.new)) }
+    ensures given_up { (base own : List Event)
+        → StandsFor (R.floor_moment replay.old) (R.kept_pairs replay.old) (base ++ own)
+        → OnErr result (StandsFor (R.floor_moment replay.new) (R.kept_pairs replay.new) (base ++ before_decode base own moment)) }
+    ensures bound { IfOk result (λ answer. answer.entries ≤ entries + 2) }
+    ensures live { (history : List Event)
+        → StandsFor (R.floor_moment replay.old) (R.kept_pairs replay.old) history
+        → AllLive (R.floor_moment replay.old) (R.kept_pairs replay.old)
+        → AllLive (R.floor_moment replay.new) (R.kept_pairs replay.new) }
+{
+    let entries = entries + purge_if_due(replay, moment);
+    match prepare(alloc, world, who, moment, text)? {
+        Prepared::Refused(reply) => Ok(Answer { reply, entries }),
+        Prepared::Ready(ready) => {
+            let verdict = replay.admit(&ready.pair, moment)?;
+            let reply = ready.complete(verdict, entries);
+            Ok(Answer {
+                reply,
+                entries: entries + 1,
+            })
+        }
+    }
+}
+
+/// Makes the purge that comes before an answer at this moment, if one is due. Returns how many
+/// events that are.
+fn purge_if_due<R: Replay>(replay: &mut R, moment: u32) -> u64
+    ensures bound { result ≤ 1 }
+    ensures live { AllLive (R.floor_moment replay.old) (R.kept_pairs replay.old)
+        → AllLive (R.floor_moment replay.new) (R.kept_pairs replay.new) }
+    ensures purged { (base own : List Event) → StandsFor (R.floor_moment replay.old) (R.kept_pairs replay.old) (base ++ own)
+        → IsPurged (R.floor_moment replay.new) (R.kept_pairs replay.new) base own moment result }
+{
+    let floor = replay.floor();
+    if moment < floor || moment - floor < PURGE_INTERVAL {
+        return 0;
+    }
+    let _ = replay.purge(moment, u32::MAX);
+    1
+}
