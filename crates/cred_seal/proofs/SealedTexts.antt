@@ -4,7 +4,6 @@ use Rattle.std.specs.Int.{div_ceil}
 use Rattle.std.proofs.lemmas.Grind.{div_ceil_times}
 use Rattle.std.specs.declared.option.Option.TheVariants.{Some}
 use Rattle.munge_types.specs.Algorithms.{mac_size}
-use Rattle.munge_types.specs.declared.algorithms.Cipher.{Cipher}
 use Rattle.munge_types.specs.declared.algorithms.Cipher.TheVariants as ciphers
 use Rattle.munge_types.specs.declared.algorithms.MacKind.{MacKind}
 use Rattle.munge_types.specs.declared.algorithms.MacKind.TheVariants.{Sha1, Sha256, Sha512}
@@ -18,18 +17,18 @@ use Rattle.cred_seal.specs.SealedContent.{sealed_content}
 use Rattle.cred_seal.specs.SealedText.{IsSealed, text_limit}
 
 -- the armour of a body without a cipher that says what was asked
-pub plainly_sealed : (key : List ℕ) (settings : Settings) (asked : Asked) (who : Identity) (moment : ℕ) (salt vector text read body : List ℕ) (cipher : Cipher) (kind : MacKind) (content : Content)
-    → cipher ≡ ciphers.None → cipher_asked asked.cipher ≡ Some cipher → mac_asked cipher asked.kind ≡ Some kind
+pub plainly_sealed : (key : List ℕ) (settings : Settings) (asked : Asked) (who : Identity) (moment : ℕ) (salt vector text read body : List ℕ) (kind : MacKind) (content : Content)
+    → cipher_asked asked.cipher ≡ Some ciphers.None → mac_asked ciphers.None asked.kind ≡ Some kind
     → content ≡ sealed_content settings asked who moment salt
     → IsBody key ciphers.None kind [] (inner_part content) body → text ≡ armor_of read → read ≡ body
     → IsSealed key settings asked who moment salt vector text
-plainly_sealed key settings asked who moment salt vector text read body cipher kind content plain cipher_is kind_is said sealed armored same =
+plainly_sealed key settings asked who moment salt vector text read body kind content cipher_is kind_is said sealed armored same =
     record {
       cipher = ciphers.None;
       kind = kind;
       body = body;
-      cipher_is = rw plain at cipher_is;
-      kind_is = rw plain at kind_is;
+      cipher_is = cipher_is;
+      kind_is = kind_is;
       sealed = rw said at sealed;
       armored = armored ∙ ap armor_of same;
     }

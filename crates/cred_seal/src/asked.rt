@@ -1,6 +1,6 @@
 //! What a request asks for, looked up and checked.
 
-ghost use Rattle.std.specs.Prelude.{◌≡◌, ◌≤◌, length, None, Some, IfOk, IfErr};
+ghost use Rattle.std.specs.Prelude.{◌≡◌, ◌≤◌, length, None, Some, IfOk, IfErr, OnOk};
 ghost use Rattle.cred_inner.specs.InnerPart.{payload_limit};
 ghost use Rattle.munge_types.specs.declared.algorithms.Cipher.{Cipher};
 ghost use Rattle.cred_seal.specs.Asked.{asked_of, cipher_asked, mac_asked, sha1_with};
@@ -17,15 +17,15 @@ const DEFAULT_TTL: u32 = 0;
 /// The time to live that asks for the longest.
 const LONGEST_TTL: u32 = u32::MAX;
 
-/// The algorithms that a request asks for, or the first cause to refuse it.
-pub(crate) fn algorithms(request: &SealRequest<'_>) -> Result<(Cipher, MacKind), SealRefused>
+/// The MAC of a request, which asks for no cipher, as no other is built; or the first cause to
+/// refuse it.
+pub(crate) fn mac_for(request: &SealRequest<'_>) -> Result<MacKind, SealRefused>
     ensures refused { IfErr result (λ refused.
         first_refusal (asked_of request.now) ≡ Some refused) }
-    ensures unrefused { IfOk result (λ asked. first_refusal (asked_of request.now) ≡ None) }
-    ensures cipher { IfOk result (λ asked. cipher_asked request.now.cipher ≡ Some asked.0) }
-    ensures kind { IfOk result (λ asked. mac_asked asked.0 request.now.kind ≡ Some asked.1) }
-    ensures plain { IfOk result (λ asked. asked.0 ≡ Cipher.None) }
-    ensures payload { IfOk result (λ asked. length request.now.payload.now ≤ payload_limit) }
+    ensures unrefused { OnOk result (first_refusal (asked_of request.now) ≡ None) }
+    ensures cipher { OnOk result (cipher_asked request.now.cipher ≡ Some Cipher.None) }
+    ensures kind { IfOk result (λ kind. mac_asked Cipher.None request.now.kind ≡ Some kind) }
+    ensures payload { OnOk result (length request.now.payload.now ≤ payload_limit) }
 {
     let Some(cipher) = cipher_asked(request.cipher) else {
         return Err(SealRefused::BadCipher);
@@ -37,7 +37,7 @@ pub(crate) fn algorithms(request: &SealRequest<'_>) -> Result<(Cipher, MacKind),
     if size > PAYLOAD_LIMIT {
         return Err(SealRefused::BadLength(size as u64));
     }
-    Ok((cipher, kind))
+    Ok(kind)
 }
 
 /// The cipher of this number in a request, and None where none that is built has it.

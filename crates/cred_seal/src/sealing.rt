@@ -10,7 +10,7 @@ ghost use Rattle.cred_seal.specs.SealedContent.{sealed_content};
 ghost use Rattle.cred_seal.specs.SealedText.{IsSealed, text_limit};
 
 use crate::SealRequest;
-use crate::asked::{algorithms, stored_ttl};
+use crate::asked::{mac_for, stored_ttl};
 use crate::body::plain_body;
 use cred_armor::armor;
 use cred_armor::laws::{armor_size, armor_spells_its_body};
@@ -87,7 +87,7 @@ pub fn seal(
     // SHA-256 and 1,048,576 bytes of payload that is 1,048,654 and 1,398,215. The payload is copied
     // twice on its way into the text: into the body as it is, and from there as base64 right into
     // the text. It is hashed where the caller has it.
-    let (_cipher, kind) = algorithms(request)?;
+    let kind = mac_for(request)?;
     let inner = Inner {
         salt,
         addr: settings.addr,
@@ -100,7 +100,6 @@ pub fn seal(
         payload: request.payload,
     };
 
-    // The one cipher that is built is none.
     let Ok(body) = plain_body(alloc, subkeys, kind, &inner) else {
         return Err(SealRefused::NoMemory);
     };
