@@ -19,7 +19,8 @@ floor_among (Idle pass ∷ events) = floor_among events
 -- what is said of a pair at a moment, where this is the floor and these pairs were accepted before
 abbrev pub verdict_among : ℕ → List Pair → Pair → ℕ → Verdict
 verdict_among floor accepted pair moment =
-    cond (nat_lt pair.expiry (max moment floor)) Expired (cond (list_any (pair_eq pair) accepted) Replayed Accepted)
+    cond (nat_lt pair.expiry (max moment floor)) Expired
+    (cond (list_any (pair_eq pair) accepted) Replayed Accepted)
 
 -- the pairs, and then the pair where it is accepted
 abbrev pub with_accepted : Verdict → List Pair → Pair → List Pair
@@ -31,7 +32,8 @@ with_accepted Replayed pairs pair = pairs
 abbrev pub accepted_back : List Event → List Pair
 accepted_back [] = []
 accepted_back (Admit pass pair moment ∷ earlier) =
-    with_accepted (verdict_among (floor_among earlier) (accepted_back earlier) pair moment) (accepted_back earlier) pair
+    let said = verdict_among (floor_among earlier) (accepted_back earlier) pair moment in
+    with_accepted said (accepted_back earlier) pair
 accepted_back (Purge pass moment ∷ earlier) = accepted_back earlier
 accepted_back (Idle pass ∷ earlier) = accepted_back earlier
 

@@ -8,3 +8,4 @@ pub mod Purge
 pub mod Room
 pub mod StandsFor
 pub mod Status
+pub mod WorkedHistory

@@ -1,4 +1,5 @@
--- What a purge drops: whole expiries below the floor, the least first, and not more of them than its slice.
+-- What a purge drops: whole expiries below the floor, the least first, and not more of them than
+-- its slice.
 use Rattle.std.specs.Prelude.{ℕ, Bool, ◌&&◌, not, nat_eq, nat_lt, cond, List, [], ◌∷◌, filter}
 use Rattle.std.specs.List.{list_any, count_by}
 use Rattle.munge_types.specs.declared.pair.Pair.{Pair}
@@ -6,7 +7,9 @@ use Rattle.munge_types.specs.declared.pair.Pair.{Pair}
 -- the expiries of the pairs, each once
 abbrev pub expiries : List Pair → List ℕ
 expiries [] = []
-expiries (pair ∷ pairs) = cond (list_any (nat_eq pair.expiry) (expiries pairs)) (expiries pairs) (pair.expiry ∷ expiries pairs)
+expiries (pair ∷ pairs) =
+    cond (list_any (nat_eq pair.expiry) (expiries pairs)) (expiries pairs)
+    (pair.expiry ∷ expiries pairs)
 
 -- how many distinct expiries of the pairs are below a bound
 abbrev pub expiries_below : (bound : ℕ) → List Pair → ℕ
@@ -15,7 +18,8 @@ expiries_below bound pairs = count_by (λ expiry. nat_lt expiry bound) (expiries
 -- A purge of these kept pairs drops the pair: it expires below the floor, and fewer distinct
 -- expiries than the slice are below its own.
 abbrev pub is_dropped : (floor slice : ℕ) → (kept : List Pair) → Pair → Bool
-is_dropped floor slice kept pair = nat_lt pair.expiry floor && nat_lt (expiries_below pair.expiry kept) slice
+is_dropped floor slice kept pair =
+    nat_lt pair.expiry floor && nat_lt (expiries_below pair.expiry kept) slice
 
 -- the pairs that a purge does not drop
 abbrev pub purged : (floor slice : ℕ) → (kept : List Pair) → List Pair

@@ -16,8 +16,18 @@ pub record StandsFor (floor : ℕ) (kept : List Pair) (history : List Event) : T
   -- the floor is the history's
   pub same_floor : floor ≡ floor_of history
   -- what was accepted and has not fallen below the floor is kept
-  pub keeps : (pair : Pair) → IsAmong (accepted history) pair → floor ≤ pair.expiry → IsAmong kept pair
+  pub keeps : (pair : Pair) → IsAmong (accepted history) pair → floor ≤ pair.expiry
+      → IsAmong kept pair
   -- what is kept was accepted
   pub was_accepted : (pair : Pair) → IsAmong kept pair → IsAmong (accepted history) pair
   -- nothing is kept twice
   pub once : IsDistinct pair_eq kept
+
+-- what contracts see of a replay structure: its floor, and the pairs that it keeps
+pub record Remembered : Type 0 where
+  pub floor : ℕ
+  pub pairs : List Pair
+
+-- a structure that remembers this stands for the history
+abbrev pub Stands : Remembered → List Event → Type 0
+Stands state history = StandsFor state.floor state.pairs history

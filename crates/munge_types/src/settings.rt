@@ -42,7 +42,8 @@ impl Settings {
         ensures max_ttl { IfSome result (λ settings. settings.max_ttl ≡ max_ttl) }
         ensures skew { IfSome result (λ settings. settings.skew ≡ skew) }
         ensures addr { IfSome result (λ settings. settings.addr ≡ addr) }
-        ensures some { IsSome result ↔ ((1 ≤ default_ttl) × (default_ttl ≤ max_ttl) × (max_ttl ≤ 3600) × (skew ≤ 300)) }
+        ensures some { IsSome result
+            ↔ ((1 ≤ default_ttl) × (default_ttl ≤ max_ttl) × (max_ttl ≤ 3600) × (skew ≤ 300)) }
     {
         if default_ttl < 1 || default_ttl > max_ttl || max_ttl > 3600 || skew > 300 {
             return None;

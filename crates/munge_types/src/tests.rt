@@ -120,3 +120,11 @@ fn a_room_takes_what_it_was_made_for(rt: HostRuntime) -> Result<(), Fail> {
     assert_eq!(rt; empty.len(), 0);
     Ok(())
 }
+
+fn crosses_threads<T: Send + Sync>(_: &T) {}
+
+#[test]
+fn settings_cross_threads(_rt: HostRuntime) {
+    crosses_threads(&Settings::usual());
+    crosses_threads(&MacBytes::of(&[7]));
+}

@@ -182,7 +182,7 @@ module _ {S : Type 0} (stands : S → List Event → Type 0) (start passes : ℕ
         own = λ _. is_of-append v.numbers w.numbers v.number ∙ ap (λ z. z || is_of w.numbers v.number) (knows.own alive);
         living = λ number has. omega arith;
         spares = λ more. let h = knows.spares more in omega arith;
-        stage = (omega arith, fronts.0, fronts.1);
+        stage = (omega arith, fronts.0, fronts.1, λ number mine his. ne (kept.fits.one_owner other id w v number at_w at (inl his) (inl mine)));
       }
       (λ j u apart at_j. fits_without.each j u at_j)
       nobody_else
@@ -281,6 +281,8 @@ module _ {S : Type 0} (stands : S → List Event → Type 0) (start passes : ℕ
               after_is = refl;
               has_first = subst (λ (z : Part). GoesOn z.numbers z.seen v.seen) is_one fits.1;
               has_second = subst (λ (z : Part). GoesOn z.numbers z.seen v.seen) is_two fits.2;
+              apart = λ number mine his. fits.3 number (subst (λ (z : Part). is_of z.numbers number ≡ true) (sym is_one) mine)
+                  (subst (λ (z : Part). is_of z.numbers number ≡ true) (sym is_two) his);
               few =
                   (let share = total_at share_of s.views id v at in
                   let all = kept.shares in

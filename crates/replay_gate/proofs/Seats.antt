@@ -103,5 +103,6 @@ module _ {S : Type 0} where
         after_is = told.after_is ∙ ap (λ (z : View). let m : Me S View = (at_stage Resting z, []) in m) is;
         first_goes_on = subst (λ (z : View). GoesOn v.numbers v.seen z.seen) is told.has_first;
         second_goes_on = subst (λ (z : View). GoesOn w.numbers w.seen z.seen) is told.has_second;
+        apart = told.apart;
         few = subst (λ (z : View). z.share < 4294967296) is told.few;
       }

@@ -6,7 +6,7 @@ use Rattle.munge_types.specs.declared.history.Event.TheVariants.{Admit, Idle}
 use Rattle.munge_types.specs.declared.history.Verdict.{Verdict}
 use Rattle.munge_types.specs.declared.history.Verdict.TheVariants.{Accepted}
 use Rattle.munge_types.specs.declared.pair.Pair.{Pair}
-use Rattle.replay_gate.specs.Entries.{GoesOn}
+use Rattle.replay_gate.specs.Entries.{AreApart, GoesOn}
 use Rattle.replay_gate.specs.Passes.{GateId, PassState}
 use Rattle.replay_gate.specs.Steps.{worn_at, longer_of}
 
@@ -51,6 +51,8 @@ pub record Meets (first second new : PassState) : Type 0 where
   pub seen : new.seen ≡ longer_of first.seen second.seen
   pub first_goes_on : GoesOn first.numbers first.seen new.seen
   pub second_goes_on : GoesOn second.numbers second.seen new.seen
+  -- no number belongs to both
+  pub apart : AreApart first.numbers second.numbers
 
 -- the pass that is left, and the new one, where so many numbers were given away
 abbrev pub kept_pass : ℕ → PassState → PassState

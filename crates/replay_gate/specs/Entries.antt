@@ -1,5 +1,5 @@
 -- Which pass made an event, and how one history goes on from another.
-use Rattle.std.specs.Prelude.{◌≡◌, ℕ, Bool, false, nat_eq, List, ◌++◌}
+use Rattle.std.specs.Prelude.{◌≡◌, ℕ, Bool, true, false, nat_eq, List, ◌++◌}
 use Rattle.std.specs.List.{list_any}
 use Rattle.munge_types.specs.declared.history.Event.{Event}
 use Rattle.munge_types.specs.declared.history.Event.TheVariants.{Admit, Purge, Idle}
@@ -13,6 +13,10 @@ maker (Idle pass) = pass
 -- whether the number is one of these
 abbrev pub is_of : List ℕ → ℕ → Bool
 is_of numbers number = list_any (nat_eq number) numbers
+
+-- no number is among both
+abbrev pub AreApart : List ℕ → List ℕ → Type 0
+AreApart numbers others = (number : ℕ) → is_of numbers number ≡ true → is_of others number ≡ true → ⊥
 
 -- whether a pass with one of these numbers made one of the events
 abbrev pub any_by : List ℕ → List Event → Bool

@@ -9,7 +9,7 @@ use Rattle.munge_types.specs.declared.history.Event.{Event}
 use Rattle.replay_gate.specs.declared.view.View.{View}
 use Rattle.replay_gate.specs.declared.view.Stage.{Stage}
 use Rattle.replay_gate.specs.declared.view.Stage.TheVariants.{Resting, Asking, Waiting, Serving, Meeting}
-use Rattle.replay_gate.specs.Entries.{is_of, any_by, GoesOn}
+use Rattle.replay_gate.specs.Entries.{is_of, any_by, AreApart, GoesOn}
 use Rattle.replay_gate.specs.Steps.{worn_at}
 
 abbrev pub At : List View → ℕ → View → Type 0
@@ -54,7 +54,7 @@ StageFits ticket turn history v Asking = 0 < v.share
 StageFits ticket turn history v (Waiting mine) = (0 < v.share) × (turn ≤ mine) × (mine < ticket)
 StageFits ticket turn history v (Serving mine) = (0 < v.share) × (mine ≡ turn) × (mine < ticket) × (v.seen ≡ history)
 StageFits ticket turn history v (Meeting first second) =
-    (0 < v.share) × GoesOn first.numbers first.seen v.seen × GoesOn second.numbers second.seen v.seen
+    (0 < v.share) × GoesOn first.numbers first.seen v.seen × GoesOn second.numbers second.seen v.seen × AreApart first.numbers second.numbers
 
 module _ (start passes ticket turn : ℕ) (history : List Event) where
   -- what has to hold of one pass

@@ -6,7 +6,7 @@ use Rattle.replay_gate.specs.declared.view.View.{View}
 use Rattle.replay_gate.specs.declared.view.Part.{Part}
 use Rattle.replay_gate.specs.declared.view.Stage.{Stage}
 use Rattle.replay_gate.specs.declared.view.Stage.TheVariants.{Resting, Asking, Waiting, Serving, Meeting}
-use Rattle.replay_gate.specs.Entries.{GoesOn}
+use Rattle.replay_gate.specs.Entries.{AreApart, GoesOn}
 
 -- the ticket word at which a gate is worn
 abbrev pub worn_at : ℕ
@@ -99,6 +99,7 @@ module _ {S : Type 0} where
     pub after_is : after ≡ (at_stage Resting before.0, [])
     pub has_first : GoesOn first.numbers first.seen before.0.seen
     pub has_second : GoesOn second.numbers second.seen before.0.seen
+    pub apart : AreApart first.numbers second.numbers
     pub few : before.0.share < 4294967296
 
   abbrev pub Met : Me S View → Me S View → Type 0

@@ -5,7 +5,7 @@ use Rattle.atomic_table.specs.Seated.{TableId}
 use Rattle.munge_types.specs.declared.history.Event.{Event}
 use Rattle.replay_gate.specs.declared.view.View.{View}
 use Rattle.replay_gate.specs.declared.view.Stage.TheVariants.{Resting, Waiting, Serving}
-use Rattle.replay_gate.specs.Entries.{GoesOn}
+use Rattle.replay_gate.specs.Entries.{AreApart, GoesOn}
 use Rattle.replay_gate.specs.Passes.{PassState}
 use Rattle.munge_types.specs.History.{verdict}
 use Rattle.munge_types.specs.declared.history.Event.TheVariants.{Admit, Idle}
@@ -109,4 +109,5 @@ module _ {S : Type 0} where
     pub after_is : after ≡ (record (merged v w) { stage = Resting }, [])
     pub first_goes_on : GoesOn v.numbers v.seen (longer_of v.seen w.seen)
     pub second_goes_on : GoesOn w.numbers w.seen (longer_of v.seen w.seen)
+    pub apart : AreApart v.numbers w.numbers
     pub few : v.share + w.share < 4294967296

@@ -2,7 +2,7 @@
 
 ghost use Rattle.std.specs.Prelude.{◌≡◌, [], ◌∷◌, ◌++◌, IfOk, IfErr, OnErr, MatchResult};
 ghost use Rattle.munge_types.specs.History.{verdict};
-ghost use Rattle.munge_types.specs.StandsFor.{StandsFor};
+ghost use Rattle.munge_types.specs.StandsFor.{Stands};
 ghost use Rattle.munge_types.specs.declared.history.Event.TheVariants.{Admit, Idle};
 ghost use Rattle.munge_types.specs.declared.history.Verdict.TheVariants.{Accepted};
 ghost use Rattle.replay_gate.specs.Calls.{Answers};
@@ -28,13 +28,13 @@ impl<R: Replay + Drop> Gate<R> {
         moment: u32,
     ) -> Result<Verdict, NoMemory>
         requires gate { seat.old.table_id ≡ self.now.table }
-        requires state { StandsAt (λ state history. StandsFor (R.floor_moment state) (R.kept_pairs state) history) seat.old.me seat.old.me.0.seen }
+        requires state { StandsAt (λ state. Stands (R.remembered state)) seat.old.me seat.old.me.0.seen }
         ensures gate { seat.new.table_id ≡ seat.old.table_id }
         ensures view { seat.new.me.0 ≡ seat.old.me.0 }
         ensures said { IfOk result (λ said. (said ≡ verdict seat.old.me.0.seen pair.now moment)
-            × StandsAt (λ state history. StandsFor (R.floor_moment state) (R.kept_pairs state) history) seat.new.me (seat.old.me.0.seen ++ Admit seat.old.me.0.number pair.now moment ∷ [])) }
+            × StandsAt (λ state. Stands (R.remembered state)) seat.new.me (seat.old.me.0.seen ++ Admit seat.old.me.0.number pair.now moment ∷ [])) }
         ensures wanted { OnErr result ((verdict seat.old.me.0.seen pair.now moment ≡ Accepted)
-            × StandsAt (λ state history. StandsFor (R.floor_moment state) (R.kept_pairs state) history) seat.new.me (seat.old.me.0.seen ++ Idle seat.old.me.0.number ∷ [])) }
+            × StandsAt (λ state. Stands (R.remembered state)) seat.new.me (seat.old.me.0.seen ++ Idle seat.old.me.0.number ∷ [])) }
     {
         seat.slot_mut(&self.table.shared, 0).admit(pair, moment)
     }

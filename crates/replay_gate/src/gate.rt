@@ -1,7 +1,7 @@
 //! A gate: a ticket word, a serving word, and the replay state behind them.
 
 ghost use Rattle.std.specs.Prelude.{◌≡◌, ◌≤◌, [], IfOk};
-ghost use Rattle.munge_types.specs.StandsFor.{StandsFor};
+ghost use Rattle.munge_types.specs.StandsFor.{Stands};
 ghost use Rattle.replay_gate.specs.Calls.{first_pass};
 ghost use Rattle.replay_gate.specs.Steps.{worn_at};
 
@@ -29,11 +29,11 @@ pub struct Origin {
 pub struct OneHistory;
 
 impl<R: Replay> TableRule<R, View, Origin> for OneHistory {
-    ghost use Rattle.munge_types.specs.StandsFor.{StandsFor};
+    ghost use Rattle.munge_types.specs.StandsFor.{Stands};
     ghost use Rattle.replay_gate.specs.Rule.{Kept};
     ghost use Rattle.replay_gate.specs.Steps.{first_view};
 
-    ghost holds = { λ origin table. Kept (λ state history. StandsFor (R.floor_moment state) (R.kept_pairs state) history) origin.start origin.passes table };
+    ghost holds = { λ origin table. Kept (λ state. Stands (R.remembered state)) origin.start origin.passes table };
 
     ghost first = { λ origin. first_view origin.start origin.passes };
 }
@@ -69,7 +69,7 @@ impl<R: Replay + Drop> Gate<R> {
     /// memory for it, the state is dropped.
     pub fn new(alloc: Global, state: R, passes: u32) -> Result<Entry<R>, NoMemory>
         requires passes { 1 ≤ passes }
-        requires empty { StandsFor (R.floor_moment state) (R.kept_pairs state) [] }
+        requires empty { Stands (R.remembered state) [] }
         ensures gate { IfOk result (λ entry. (entry.gate.start ≡ 0) × (entry.gate.passes ≡ passes)) }
         ensures pass { IfOk result (λ entry. entry.pass ≡ first_pass entry.gate) }
     {
@@ -80,7 +80,7 @@ impl<R: Replay + Drop> Gate<R> {
     pub fn new_at(alloc: Global, state: R, passes: u32, ticket: u64) -> Result<Entry<R>, NoMemory>
         requires passes { 1 ≤ passes }
         requires ticket { ticket ≤ worn_at }
-        requires empty { StandsFor (R.floor_moment state) (R.kept_pairs state) [] }
+        requires empty { Stands (R.remembered state) [] }
         ensures gate { IfOk result (λ entry. (entry.gate.start ≡ ticket) × (entry.gate.passes ≡ passes)) }
         ensures pass { IfOk result (λ entry. entry.pass ≡ first_pass entry.gate) }
     {

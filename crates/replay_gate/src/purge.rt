@@ -1,7 +1,7 @@
 //! Purging the state of a gate.
 
 ghost use Rattle.std.specs.Prelude.{◌≡◌, [], ◌∷◌, ◌++◌, IfOk, IfErr};
-ghost use Rattle.munge_types.specs.StandsFor.{StandsFor};
+ghost use Rattle.munge_types.specs.StandsFor.{Stands};
 ghost use Rattle.munge_types.specs.declared.history.Event.TheVariants.{Purge};
 ghost use Rattle.replay_gate.specs.Calls.{IsWorn};
 ghost use Rattle.replay_gate.specs.Purges.{Drops, Purges, HasPurged};
@@ -21,10 +21,10 @@ impl<R: Replay + Drop> Gate<R> {
     /// Purges the state, which the seat holds while it has the turn.
     fn purge_state(&self, seat: &mut Seat<R, View>, moment: u32, slice: u32) -> Purged
         requires gate { seat.old.table_id ≡ self.now.table }
-        requires state { StandsAt (λ state history. StandsFor (R.floor_moment state) (R.kept_pairs state) history) seat.old.me seat.old.me.0.seen }
+        requires state { StandsAt (λ state. Stands (R.remembered state)) seat.old.me seat.old.me.0.seen }
         ensures gate { seat.new.table_id ≡ seat.old.table_id }
         ensures view { seat.new.me.0 ≡ seat.old.me.0 }
-        ensures state { StandsAt (λ state history. StandsFor (R.floor_moment state) (R.kept_pairs state) history) seat.new.me (seat.old.me.0.seen ++ Purge seat.old.me.0.number moment ∷ []) }
+        ensures state { StandsAt (λ state. Stands (R.remembered state)) seat.new.me (seat.old.me.0.seen ++ Purge seat.old.me.0.number moment ∷ []) }
         ensures drops { Drops seat.old.me.0.seen seat.old.me.0.number moment slice result }
     {
         seat.slot_mut(&self.table.shared, 0).purge(moment, slice)

@@ -1,7 +1,7 @@
 //! The steps of a call: draw a ticket, wait for its turn, and give the turn up.
 
 ghost use Rattle.std.specs.Prelude.{◌≡◌, ℕ, [], ◌∷◌, ◌++◌, IfOk, IfErr};
-ghost use Rattle.munge_types.specs.StandsFor.{StandsFor};
+ghost use Rattle.munge_types.specs.StandsFor.{Stands};
 ghost use Rattle.replay_gate.specs.Entries.{maker};
 ghost use Rattle.replay_gate.specs.Steps.{Serves, entered};
 ghost use Rattle.replay_gate.specs.Turns.{Rests, Waits, FindsWorn, StandsAt, HasTurn};
@@ -53,7 +53,7 @@ impl<R: Replay + Drop> Gate<R> {
         requires gate { seat.old.table_id ≡ self.now.table }
         requires waits { (seat.old.me.1 ≡ []) × (seat.old.me.0.stage ≡ Waiting ticket) }
         ensures gate { seat.new.table_id ≡ seat.old.table_id }
-        ensures serves { Serves (λ state history. StandsFor (R.floor_moment state) (R.kept_pairs state) history) ticket seat.old.me seat.new.me }
+        ensures serves { Serves (λ state. Stands (R.remembered state)) ticket seat.old.me seat.new.me }
     {
         let mut looks = 0;
         for _ in rt.forever() {
@@ -75,7 +75,7 @@ impl<R: Replay + Drop> Gate<R> {
         requires gate { seat.old.table_id ≡ self.now.table }
         requires rests { Rests seat.old.me }
         ensures gate { seat.new.table_id ≡ seat.old.table_id }
-        ensures turn { IfOk result (λ ticket. HasTurn (λ state history. StandsFor (R.floor_moment state) (R.kept_pairs state) history) seat.old.me ticket seat.new.me) }
+        ensures turn { IfOk result (λ ticket. HasTurn (λ state. Stands (R.remembered state)) seat.old.me ticket seat.new.me) }
         ensures worn { IfErr result (λ ticket. FindsWorn seat.old.me ticket seat.new.me) }
     {
         let ticket = self.draw(seat)?;
@@ -87,7 +87,7 @@ impl<R: Replay + Drop> Gate<R> {
     pub(crate) fn leave<E: Entered>(&self, seat: &mut Seat<R, View>, entry: Event)
         requires gate { seat.old.table_id ≡ self.now.table }
         requires entry { (entry ≡ E.entry) × (maker E.entry ≡ seat.old.me.0.number) }
-        requires state { StandsAt (λ state history. StandsFor (R.floor_moment state) (R.kept_pairs state) history) seat.old.me (seat.old.me.0.seen ++ E.entry ∷ []) }
+        requires state { StandsAt (λ state. Stands (R.remembered state)) seat.old.me (seat.old.me.0.seen ++ E.entry ∷ []) }
         requires turn { (ticket : ℕ) × (seat.old.me.0.stage ≡ Serving ticket) }
         ensures gate { seat.new.table_id ≡ seat.old.table_id }
         ensures entered { seat.new.me ≡ (entered E.entry seat.old.me.0, []) }

@@ -2,7 +2,7 @@
 //! like.
 
 ghost use Rattle.std.specs.Prelude.{◌≡◌, []};
-ghost use Rattle.munge_types.specs.StandsFor.{StandsFor};
+ghost use Rattle.munge_types.specs.StandsFor.{Stands};
 
 use crate::expiries::pass_expiries;
 use munge_types::{NoMemory, Pair, Purged, Replay, Verdict};
@@ -20,9 +20,9 @@ impl PlainReplay {
     /// A structure with floor 0 that keeps nothing. It stands for the empty history. It takes no
     /// memory, and `admit` takes its memory from `alloc`.
     pub fn new(alloc: Global) -> PlainReplay
-        ensures floor { ⟦<PlainReplay as Replay>⟧.floor_moment result ≡ 0 }
-        ensures kept { ⟦<PlainReplay as Replay>⟧.kept_pairs result ≡ [] }
-        ensures stands { StandsFor (⟦<PlainReplay as Replay>⟧.floor_moment result) (⟦<PlainReplay as Replay>⟧.kept_pairs result) [] }
+        ensures floor { (⟦<PlainReplay as Replay>⟧.remembered result).floor ≡ 0 }
+        ensures kept { (⟦<PlainReplay as Replay>⟧.remembered result).pairs ≡ [] }
+        ensures stands { Stands (⟦<PlainReplay as Replay>⟧.remembered result) [] }
     {
         PlainReplay {
             floor: 0,
@@ -32,9 +32,7 @@ impl PlainReplay {
 }
 
 impl Replay for PlainReplay {
-    ghost floor_moment = { λ state. state.floor };
-
-    ghost kept_pairs = { λ state. state.pairs.items };
+    ghost remembered = { λ state. record { floor = state.floor; pairs = state.pairs.items } };
 
     fn admit(&mut self, pair: &Pair, moment: u32) -> Result<Verdict, NoMemory> {
         if pair.expiry < u64::from(moment.max(self.floor)) {

@@ -1,6 +1,6 @@
 use Rattle.std.proofs.Common.{ℕ, [], ◌∷◌, ◌++◌, ap, sym, ◌∙◌, refl, subst}
 use Rattle.munge_types.specs.History.{verdict}
-use Rattle.munge_types.specs.StandsFor.{StandsFor}
+use Rattle.munge_types.specs.StandsFor.{Stands}
 use Rattle.munge_types.specs.declared.history.Event.TheVariants.{Admit, Idle}
 use Rattle.replay_gate.specs.declared.view.View.{View}
 use Rattle.replay_gate.specs.Turns.{StandsAt, HasEntered}
@@ -20,14 +20,14 @@ leave-requires-in-Err-clause-entry g c =
 pub leave-requires-clause-state : goal.leave-requires-clause-state
 leave-requires-clause-state g c =
     let number = ap (λ (z : View). z.number) c.in_ok-ticket.ensures.turn.view_is ∙ c.requires.number in
-    let stands = λ (state : g.row.R.Denot). StandsFor (g.R.Replay.floor_moment state) (g.R.Replay.kept_pairs state) in
+    let stands = λ (state : g.row.R.Denot). Stands (g.R.Replay.remembered state) in
     λ κs lives. subst (λ (z : View). StandsAt stands c.look_up.new.seat.me (z.seen ++ Admit c.args.number c.args.pair.now c.args.moment ∷ [])) (sym c.in-Ok.ensures.view)
     (subst (λ (n : ℕ). StandsAt stands c.look_up.new.seat.me (c.take_turn.new.seat.me.0.seen ++ Admit n c.args.pair.now c.args.moment ∷ [])) number c.in-Ok.ensures.said.1)
 
 pub leave-requires-in-Err-clause-state : goal.leave-requires-in-Err-clause-state
 leave-requires-in-Err-clause-state g c =
     let number = ap (λ (z : View). z.number) c.in_ok-ticket.ensures.turn.view_is ∙ c.requires.number in
-    let stands = λ (state : g.row.R.Denot). StandsFor (g.R.Replay.floor_moment state) (g.R.Replay.kept_pairs state) in
+    let stands = λ (state : g.row.R.Denot). Stands (g.R.Replay.remembered state) in
     λ κs lives. subst (λ (z : View). StandsAt stands c.look_up.new.seat.me (z.seen ++ Idle c.args.number ∷ [])) (sym c.in-Err.ensures.view)
     (subst (λ (n : ℕ). StandsAt stands c.look_up.new.seat.me (c.take_turn.new.seat.me.0.seen ++ Idle n ∷ [])) number c.in-Err.ensures.wanted.1)
 

@@ -1,5 +1,5 @@
 use Rattle.std.proofs.Common.{ℕ, ◌≡◌, true, List, [], ◌∷◌, length, ap, sym, ◌∙◌, subst, arith}
-use Rattle.munge_types.specs.StandsFor.{StandsFor}
+use Rattle.munge_types.specs.StandsFor.{Stands}
 use Rattle.munge_types.specs.declared.history.Event.{Event}
 use Rattle.munge_types.proofs.HistoryLemmas.{accepted-distinct}
 use Rattle.replay_gate.specs.declared.view.View.{View}
@@ -19,7 +19,7 @@ returns-clause-stands g c =
     let share = ap (λ (z : View). z.share) view ∙ (ap (λ (z : PassState). z.share) c.pass.view_is ∙ (c.requires.whole ∙ (sym (ap (λ (z : GateId). z.passes) c.self.view_is) ∙ sym (ap (λ (z : Origin). z.passes) c.self.invariant.2)))) in
     let seen = ap (λ (z : View). z.seen) view ∙ ap (λ (z : PassState). z.seen) c.pass.view_is in
     let told = ends _ _ _ _ _ _ _ c.close_with-closed.ensures.values.2 (ap (λ (z : View). z.stage) view ∙ c.pass.invariant.rests) share c.take-state.result c.take-state.ensures.value in
-    subst (StandsFor (g.R.Replay.floor_moment c.take-state.result) (g.R.Replay.kept_pairs c.take-state.result)) seen told.0
+    subst (Stands (g.R.Replay.remembered c.take-state.result)) seen told.0
 
 pub returns-clause-made : goal.returns-clause-made
 returns-clause-made g c =
@@ -40,3 +40,6 @@ returns-clause-highest g c =
     let start = ap (λ (z : Origin). z.start) c.self.invariant.2 ∙ ap (λ (z : GateId). z.start) c.self.view_is in
     let told = ends _ _ _ _ _ _ _ c.close_with-closed.ensures.values.2 (ap (λ (z : View). z.stage) view ∙ c.pass.invariant.rests) share c.take-state.result c.take-state.ensures.value in
     let bound = told.1 in omega arith
+
+pub returns-clause-not_worn : goal.returns-clause-not_worn
+returns-clause-not_worn g c = λ fresh short. let bound = returns-clause-highest g c in omega arith

@@ -1,5 +1,5 @@
 use Rattle.std.proofs.Common.{ℕ, [], ◌∷◌, ◌++◌, ap, sym, ◌∙◌, refl, subst}
-use Rattle.munge_types.specs.StandsFor.{StandsFor}
+use Rattle.munge_types.specs.StandsFor.{Stands}
 use Rattle.munge_types.specs.declared.history.Event.TheVariants.{Purge}
 use Rattle.replay_gate.specs.declared.view.View.{View}
 use Rattle.replay_gate.specs.Purges.{Drops}
@@ -15,7 +15,7 @@ leave-requires-clause-entry g c =
 pub leave-requires-clause-state : goal.leave-requires-clause-state
 leave-requires-clause-state g c =
     let number = ap (λ (z : View). z.number) c.in_ok-ticket.ensures.turn.view_is ∙ c.requires.number in
-    let stands = λ (state : g.row.R.Denot). StandsFor (g.R.Replay.floor_moment state) (g.R.Replay.kept_pairs state) in
+    let stands = λ (state : g.row.R.Denot). Stands (g.R.Replay.remembered state) in
     λ κs lives. subst (λ (z : View). StandsAt stands c.purge_state-purged.new.seat.me (z.seen ++ Purge c.args.number c.args.moment ∷ [])) (sym c.purge_state-purged.ensures.view)
     (subst (λ (n : ℕ). StandsAt stands c.purge_state-purged.new.seat.me (c.take_turn.new.seat.me.0.seen ++ Purge n c.args.moment ∷ [])) number c.purge_state-purged.ensures.state)
 
