@@ -6,7 +6,7 @@ use Rattle.std.proofs.lemmas.Bool.{cases_lt}
 use Rattle.std.proofs.Math.Seq.{drop-cons}
 use Rattle.std.proofs.lemmas.Nat.{be_bytes_4}
 use Rattle.munge_types.specs.BigEndian.{be32}
-use Rattle.cred_inner.specs.Bytes.{IsBytes}
+use Rattle.munge_types.specs.Bytes.{IsBytes}
 use Rattle.cred_inner.specs.InnerPart.{Content, IsContent, inner_part, payload_limit}
 use Rattle.cred_inner.proofs.InnerFields.{Fields, IsFields, laid, laid_once, fields_of, laid-fields_of, is_fields_of, content_in}
 

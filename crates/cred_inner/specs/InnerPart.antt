@@ -1,6 +1,6 @@
 -- What a credential says, and how it is laid out before it is sealed.
 use Rattle.std.specs.Prelude.{◌≡◌, ℕ, ◌<◌, ◌≤◌, ◌^◌, List, ◌∷◌, ◌++◌, length}
-use Rattle.cred_inner.specs.Bytes.{IsBytes}
+use Rattle.munge_types.specs.Bytes.{IsBytes}
 use Rattle.munge_types.specs.BigEndian.{be32}
 
 -- what a credential says

@@ -1,7 +1,7 @@
 //! From what a credential says to its bytes.
 
 ghost use Rattle.std.specs.Prelude.{◌≡◌, ◌+◌, ◌≤◌, ◌++◌, length, take, drop};
-ghost use Rattle.cred_inner.specs.Bytes.{IsBytes};
+ghost use Rattle.munge_types.specs.Bytes.{IsBytes};
 ghost use Rattle.cred_inner.specs.Inner.{content_of};
 ghost use Rattle.cred_inner.specs.InnerPart.{IsContent, inner_part, payload_limit};
 

@@ -1,5 +1,6 @@
 pub mod Algorithms
 pub mod BigEndian
+pub mod Bytes
 pub mod History
 pub mod Live
 pub mod MacBytes
