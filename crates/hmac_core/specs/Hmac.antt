@@ -1,5 +1,5 @@
 -- HMAC (RFC 2104) over the hash functions of FIPS 180-4.
-use Rattle.std.specs.Prelude.{ℕ, ◌-◌, nat_lt, cond, List, ◌++◌, length, map, replicate, bit_xor}
+use Rattle.std.specs.Prelude.{ℕ, ◌-◌, nat_lt, if◌then◌else◌, List, ◌++◌, length, map, replicate, bit_xor}
 use Rattle.sha1.specs.Sha1.{sha1}
 use Rattle.sha2.specs.Sha256.{sha256}
 use Rattle.sha2.specs.Sha512.{sha512}
@@ -24,7 +24,8 @@ filled size bytes = bytes ++ replicate (size - length bytes) 0
 
 -- the key as one block: itself, or its hash where it is longer than a block, filled with zeros
 abbrev pub block_key : MacKind → List ℕ → List ℕ
-block_key kind key = filled (block_size kind) (cond (nat_lt (block_size kind) (length key)) (hash kind key) key)
+block_key kind key =
+    filled (block_size kind) (if nat_lt (block_size kind) (length key) then hash kind key else key)
 
 -- each byte of the block, xor the pad's byte
 abbrev pub padded_by : ℕ → List ℕ → List ℕ

@@ -1,6 +1,6 @@
 -- What a history of the replay state comes to: its floor, the pairs that it accepted, and what it
 -- says of a pair. All of it looks through every event since the first.
-use Rattle.std.specs.Prelude.{ℕ, max, nat_lt, cond, List, [], ◌∷◌, ◌++◌, reverse}
+use Rattle.std.specs.Prelude.{ℕ, max, nat_lt, if◌then◌else◌, List, [], ◌∷◌, ◌++◌, reverse}
 use Rattle.std.specs.List.{list_any}
 use Rattle.munge_types.specs.Pair.{pair_eq}
 use Rattle.munge_types.specs.declared.pair.Pair.{Pair}
@@ -19,8 +19,9 @@ floor_among (Idle pass ∷ events) = floor_among events
 -- what is said of a pair at a moment, where this is the floor and these pairs were accepted before
 abbrev pub verdict_among : ℕ → List Pair → Pair → ℕ → Verdict
 verdict_among floor accepted pair moment =
-    cond (nat_lt pair.expiry (max moment floor)) Expired
-    (cond (list_any (pair_eq pair) accepted) Replayed Accepted)
+    if nat_lt pair.expiry (max moment floor) then Expired
+    else if list_any (pair_eq pair) accepted then Replayed
+    else Accepted
 
 -- the pairs, and then the pair where it is accepted
 abbrev pub with_accepted : Verdict → List Pair → Pair → List Pair

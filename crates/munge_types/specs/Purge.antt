@@ -1,6 +1,6 @@
 -- What a purge drops: whole expiries below the floor, the least first, and not more of them than
 -- its slice.
-use Rattle.std.specs.Prelude.{ℕ, Bool, ◌&&◌, not, nat_eq, nat_lt, cond, List, [], ◌∷◌, filter}
+use Rattle.std.specs.Prelude.{ℕ, Bool, ◌&&◌, not, nat_eq, nat_lt, if◌then◌else◌, List, [], ◌∷◌, filter}
 use Rattle.std.specs.List.{list_any, count_by}
 use Rattle.munge_types.specs.declared.pair.Pair.{Pair}
 
@@ -8,8 +8,8 @@ use Rattle.munge_types.specs.declared.pair.Pair.{Pair}
 abbrev pub expiries : List Pair → List ℕ
 expiries [] = []
 expiries (pair ∷ pairs) =
-    cond (list_any (nat_eq pair.expiry) (expiries pairs)) (expiries pairs)
-    (pair.expiry ∷ expiries pairs)
+    if list_any (nat_eq pair.expiry) (expiries pairs) then expiries pairs
+    else pair.expiry ∷ expiries pairs
 
 -- how many distinct expiries of the pairs are below a bound
 abbrev pub expiries_below : (bound : ℕ) → List Pair → ℕ
