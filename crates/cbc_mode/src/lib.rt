@@ -1,0 +1,7 @@
+//! Cipher block chaining (NIST SP 800-38A, section 6.2) with AES, both ways in place, and the
+//! padding that it needs (RFC 5652, section 6.3). No call takes memory.
+#![tactic(auto)]
+
+mod padding;
+
+pub use padding::pad_size;
