@@ -2,6 +2,11 @@
 //! padding that it needs (RFC 5652, section 6.3). No call takes memory.
 #![tactic(auto)]
 
+mod chaining;
+pub mod laws;
 mod padding;
+#[cfg(test)]
+mod tests;
 
-pub use padding::pad_size;
+pub use chaining::{open_in_place, seal_in_place};
+pub use padding::{pad_size, unpad};
