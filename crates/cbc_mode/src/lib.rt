@@ -2,11 +2,14 @@
 //! padding that it needs (RFC 5652, section 6.3). No call takes memory.
 #![tactic(auto)]
 
-mod chaining;
+mod block;
 pub mod laws;
+mod opening;
 mod padding;
+mod sealing;
 #[cfg(test)]
 mod tests;
 
-pub use chaining::{open_in_place, seal_in_place};
+pub use opening::open_in_place;
 pub use padding::{pad_size, unpad};
+pub use sealing::seal_in_place;

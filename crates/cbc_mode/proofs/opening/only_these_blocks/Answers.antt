@@ -4,7 +4,7 @@ use Rattle.aes_block.specs.DataKey.{key_of}
 use Rattle.aes_block.specs.State.{IsBlock}
 use Rattle.cbc_mode.specs.Cbc.{IsBlocks}
 use Rattle.cbc_mode.proofs.Chains.{IsByte}
-use Rattle.cbc_mode.proofs.chaining.only_these_blocks.Goals as goal
+use Rattle.cbc_mode.proofs.opening.only_these_blocks.Goals as goal
 
 pub returns : goal.returns
 returns c =

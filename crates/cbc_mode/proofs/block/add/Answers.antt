@@ -1,6 +1,6 @@
 use Rattle.std.proofs.Common.{arith}
 use Rattle.cbc_mode.proofs.Xor.{xor_of}
-use Rattle.cbc_mode.proofs.chaining.add.Goals as goal
+use Rattle.cbc_mode.proofs.block.add.Goals as goal
 
 pub returns : goal.returns
 returns c =

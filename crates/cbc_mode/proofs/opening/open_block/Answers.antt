@@ -3,7 +3,7 @@ use Rattle.aes_block.specs.Cipher.{cipher}
 use Rattle.aes_block.specs.DataKey.{key_of}
 use Rattle.cbc_mode.specs.Cbc.{xor}
 use Rattle.cbc_mode.proofs.Xor.{xor_undone}
-use Rattle.cbc_mode.proofs.chaining.open_block.Goals as goal
+use Rattle.cbc_mode.proofs.opening.open_block.Goals as goal
 
 pub returns-clause-undone : goal.returns-clause-undone
 returns-clause-undone c =

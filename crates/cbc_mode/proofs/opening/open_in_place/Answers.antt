@@ -2,7 +2,7 @@ use Rattle.std.proofs.Common.{◌≡◌, List, ℕ, sym, ◌∙◌, arith}
 use Rattle.aes_block.specs.DataKey.{key_of}
 use Rattle.cbc_mode.specs.Cbc.{cbc}
 use Rattle.cbc_mode.proofs.Chains.{opened_none, opened_step, opened_all}
-use Rattle.cbc_mode.proofs.chaining.open_in_place.Goals as goal
+use Rattle.cbc_mode.proofs.opening.open_in_place.Goals as goal
 
 pub loop-number-init : goal.loop-number-init
 loop-number-init c = opened_none _ _ _

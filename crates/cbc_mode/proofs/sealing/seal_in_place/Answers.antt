@@ -1,6 +1,6 @@
 use Rattle.std.proofs.Common.{arith}
 use Rattle.cbc_mode.proofs.Chains.{sealed_none, sealed_step, sealed_all}
-use Rattle.cbc_mode.proofs.chaining.seal_in_place.Goals as goal
+use Rattle.cbc_mode.proofs.sealing.seal_in_place.Goals as goal
 
 pub loop-number-init : goal.loop-number-init
 loop-number-init c = sealed_none _ _ _
