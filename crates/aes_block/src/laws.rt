@@ -7,8 +7,8 @@ ghost use Rattle.aes_block.specs.DataKey.{key_of};
 
 use crate::data_key::DataKey;
 
-/// Whatever is encrypted, the result has sixteen elements. Under a key of bytes a block is encrypted
-/// to a block, and no two blocks to the same.
+/// Whatever is encrypted, the result has sixteen elements. Under a key of bytes a block is
+/// encrypted to a block, and no two blocks to the same.
 pub fn encryption_is_one_to_one()
     ensures size { (key block : List ℕ) → length (cipher key block) ≡ 16 }
     ensures block { (key block : List ℕ) → All (λ b. b < 256) key

@@ -27,7 +27,8 @@ fn assert_both_ways(
     assert_eq!(rt; &buf, plain);
 }
 
-/// NIST SP 800-38A, appendix F.2.1 and F.2.2 (AES-128), F.2.5 and F.2.6 (AES-256), four blocks each.
+/// NIST SP 800-38A, appendix F.2.1 and F.2.2 (AES-128), F.2.5 and F.2.6 (AES-256), four blocks
+/// each.
 #[test]
 fn examples_of_the_standard(rt: HostRuntime) {
     let short = DataKey::Aes128(Key128::new(
@@ -50,7 +51,8 @@ fn examples_of_the_standard(rt: HostRuntime) {
     assert_both_ways(&rt, &long, &VECTOR, &PLAIN, sealed);
 }
 
-/// `openssl enc -aes-128-cbc -nopad` and `-aes-256-cbc`, with keys and vectors of one byte repeated.
+/// `openssl enc -aes-128-cbc -nopad` and `-aes-256-cbc`, with keys and vectors of one byte
+/// repeated.
 #[test]
 fn cases_of_openssl(rt: HostRuntime) {
     let short = DataKey::Aes128(Key128::new(&[0; 16]));
@@ -93,8 +95,8 @@ fn sizes_of_padding(rt: HostRuntime) {
     }
 }
 
-/// The length that `padding.PKCS7(128).unpadder()` of Python's `cryptography` leaves, and None where
-/// it refuses.
+/// The length that `padding.PKCS7(128).unpadder()` of Python's `cryptography` leaves, and None
+/// where it refuses.
 #[test]
 fn padding_taken_off(rt: HostRuntime) {
     let table: [(&[u8], Option<usize>); 15] = [
