@@ -1,9 +1,10 @@
 //! Cutting a pass in two, and taking one into another.
 
 ghost use Rattle.std.specs.Prelude.{◌≡◌, ◌<◌, ◌≤◌, [], IfOk, OnOk, OnErr};
-ghost use Rattle.replay_gate.specs.Calls.{Meets, kept_pass, given_pass};
-ghost use Rattle.replay_gate.specs.Steps.{left_part, given_part};
-ghost use Rattle.replay_gate.specs.Turns.{Rests, HasMet};
+ghost use Rattle.replay_gate.specs.Meets.{Meets};
+ghost use Rattle.replay_gate.specs.PassState.{kept_pass, given_pass};
+ghost use Rattle.replay_gate.specs.Seats.{Rests, HasMet};
+ghost use Rattle.replay_gate.specs.Views.{left_part, given_part};
 
 use crate::gate::{Gate, TICKETS};
 use crate::pass::Pass;
@@ -19,8 +20,11 @@ impl<R: Replay + Drop> Gate<R> {
     fn cut<C: Counted>(&self, seat: &mut Seat<R, View>, count: u32) -> Seat<R, View>
         requires gate { seat.old.table_id ≡ self.now.table }
         requires rests { Rests seat.old.me }
-        requires count { (count ≡ C.count) × (0 < C.count) × (C.count ≤ seat.old.me.0.spare) }
-        ensures gate { (seat.new.table_id ≡ seat.old.table_id) × (result.table_id ≡ seat.old.table_id) }
+        requires count { count ≡ C.count }
+        requires several { 0 < C.count }
+        requires spare { C.count ≤ seat.old.me.0.spare }
+        ensures gate { seat.new.table_id ≡ seat.old.table_id }
+        ensures given_gate { result.table_id ≡ seat.old.table_id }
         ensures left { seat.new.me ≡ (left_part C.count seat.old.me.0, []) }
         ensures given { result.me ≡ (given_part C.count seat.old.me.0, []) }
     {

@@ -1,8 +1,8 @@
 use Rattle.std.proofs.Common.{sym, ◌∙◌, subst}
 use Rattle.std.specs.Prelude.{IfOk}
-use Rattle.replay_gate.specs.Calls.{Answers}
-use Rattle.replay_gate.specs.Entries.{GoesOn}
-use Rattle.replay_gate.specs.Passes.{PassState}
+use Rattle.replay_gate.specs.Answers.{Answers}
+use Rattle.replay_gate.specs.GoesOn.{GoesOn}
+use Rattle.replay_gate.specs.PassState.{PassState}
 use Rattle.replay_gate.proofs.Twice.{not_both}
 use Rattle.replay_gate.proofs.tests.admit_both.Goals as goal
 
