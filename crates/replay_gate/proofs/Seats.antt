@@ -44,8 +44,8 @@ module _ {S : Type 0} (remembered : S → Remembered) (start passes slots id : �
       → maker entry ≡ me.0.number → slots ≡ 1
       → Allows (Kept remembered start passes) slots id me 1 (λ n. (n + 1) % 2 ^ 64) (λ found. Left entry me)
   leaves_at entry ticket state serves by one =
-      subst (λ (c : List (ℕ × S)). Allows (Kept remembered start passes) slots id (me.0, c) 1 (λ n. (n + 1) % 2 ^ 64) (λ found. Left entry (me.0, c))) (sym state.1)
-      (leaves_allowed remembered start passes slots id me.0 ticket state.0 entry serves state.2 by one)
+      subst (λ (c : List (ℕ × S)). Allows (Kept remembered start passes) slots id (me.0, c) 1 (λ n. (n + 1) % 2 ^ 64) (λ found. Left entry (me.0, c))) (sym state.holds)
+      (leaves_allowed remembered start passes slots id me.0 ticket state.state entry serves state.stands_for by one)
 
   pub compares_at : (first second : Part) → me.1 ≡ [] → me.0.stage ≡ Meeting first second
       → Allows (Kept remembered start passes) slots id me 0 (λ n. n) (λ found. Met me)
@@ -87,7 +87,11 @@ module _ {S : Type 0} where
         place = subst (λ (z : View). ticket ≡ z.start + length serves.history) same serves.place;
         view_is = ap (λ (z : Me S View). z.0) serves.after_is
             ∙ ap (serving ticket serves.history) same;
-        stands_for = (serves.state, ap (λ (z : Me S View). z.1) serves.after_is, subst (Stands (remembered serves.state)) (sym seen) serves.stands_for);
+        stands_for = record {
+          state = serves.state;
+          holds = ap (λ (z : Me S View). z.1) serves.after_is;
+          stands_for = subst (Stands (remembered serves.state)) (sym seen) serves.stands_for;
+        };
       }
 
   pub has_entered : (remembered : S → Remembered) (before between looked after : Me S View) (ticket : ℕ) (entry : Event)

@@ -40,9 +40,11 @@ module _ {S : Type 0} where
     pub after_is : after ≡ (record (before.0) { highest = ticket }, [])
 
   module _ (remembered : S → Remembered) where
-    -- the seat holds a state that stands for the history
-    abbrev pub StandsAt : Me S View → List Event → Type 0
-    StandsAt me history = (state : S) × (me.1 ≡ (0, state) ∷ []) × Stands (remembered state) history
+    -- the seat holds the slot's state, which stands for the history
+    pub record StandsAt (me : Me S View) (history : List Event) : Type 0 where
+      pub state : S
+      pub holds : me.1 ≡ (0, state) ∷ []
+      pub stands_for : Stands (remembered state) history
 
     -- it stands for all that the seat has seen
     abbrev pub StandsForSeen : Me S View → Type 0

@@ -21,7 +21,9 @@ pub(crate) const SERVING: usize = 1;
 /// At which number a gate begins, and how many passes it may have.
 #[derive(Clone, Copy, Drop)]
 pub struct Origin {
+    /// The first ticket.
     pub start: u64,
+    /// How many passes there may be at most, at least 1.
     pub passes: u32,
 }
 
@@ -65,8 +67,8 @@ pub struct Entry<R: Replay + Drop> {
 }
 
 impl<R: Replay + Drop> Gate<R> {
-    /// A gate over a state that stands for the empty history, of so many passes. Where there is no
-    /// memory for it, the state is dropped.
+    /// A gate over a state that stands for the empty history, of so many passes, at least 1. Its
+    /// tickets begin at 0. Where there is no memory for it, the state is dropped.
     pub fn new(alloc: Global, state: R, passes: u32) -> Result<Entry<R>, NoMemory>
         requires passes { 1 ≤ passes }
         requires empty { Stands (R.remembered state) [] }
@@ -77,7 +79,8 @@ impl<R: Replay + Drop> Gate<R> {
         Gate::new_at(alloc, state, passes, 0)
     }
 
-    /// The same, with the tickets beginning at this number, which is at most 2^62.
+    /// The same, with the tickets beginning at this number, which is at most 2^62. With 2^62 the gate
+    /// is worn from the first.
     pub fn new_at(alloc: Global, state: R, passes: u32, ticket: u64) -> Result<Entry<R>, NoMemory>
         requires passes { 1 ≤ passes }
         requires ticket { ticket ≤ worn_at }

@@ -33,9 +33,9 @@ impl<R: Replay + Drop> Gate<R> {
         self.table.shared.split_seat::<Give<C>>(seat)
     }
 
-    /// Gives the last `count` of the numbers that the pass can give away to a new pass, which has
-    /// seen what the pass has seen. The first of them is the new pass's own. Where it answers
-    /// `NoMemory`, the pass is as before.
+    /// Gives the last `count` of the numbers that the pass can give away, from 1 to all of them, to a
+    /// new pass, which has seen what the pass has seen. The first of them is the new pass's own. Where
+    /// it answers `NoMemory`, the pass is as before.
     pub fn split(&self, pass: &mut Pass, count: u32) -> Result<Pass, NoMemory>
         requires gate { pass.old.gate ≡ self.now }
         requires count { (1 ≤ count) × (count ≤ pass.old.spare) }
@@ -71,8 +71,8 @@ impl<R: Replay + Drop> Gate<R> {
         self.table.shared.load::<Compare>(seat, TICKETS);
     }
 
-    /// Takes the second pass into the first, which then has the numbers of both, and has seen what
-    /// either has seen.
+    /// Takes the second pass into the first, which then has the numbers of both, of which none is in
+    /// common, and has seen what either has seen. It takes no memory.
     pub fn meet(&self, first: Pass, second: Pass) -> Pass
         requires gate { (first.gate ≡ self.now) × (second.gate ≡ self.now) }
         ensures { Meets first second result }

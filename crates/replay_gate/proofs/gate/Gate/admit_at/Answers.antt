@@ -1,16 +1,10 @@
-use Rattle.std.proofs.Common.{ℕ, ap, sym, ◌∙◌, refl, subst}
+use Rattle.std.proofs.Common.{ℕ, ap, sym, ◌∙◌, subst}
 use Rattle.munge_types.specs.History.{verdict}
 use Rattle.munge_types.specs.declared.history.Event.TheVariants.{Admit, Idle}
 use Rattle.replay_gate.specs.declared.view.View.{View}
 use Rattle.replay_gate.specs.Seats.{StandsWith, HasEntered}
 use Rattle.replay_gate.proofs.Seats.{has_entered}
 use Rattle.replay_gate.proofs.gate.Gate.admit_at.Goals as goal
-
-pub leave-requires-clause-entry : goal.leave-requires-clause-entry
-leave-requires-clause-entry g c = λ κs lives. refl
-
-pub leave-requires-in-Err-clause-entry : goal.leave-requires-in-Err-clause-entry
-leave-requires-in-Err-clause-entry g c = λ κs lives. refl
 
 pub leave-requires-clause-own : goal.leave-requires-clause-own
 leave-requires-clause-own g c =
