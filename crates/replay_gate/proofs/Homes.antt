@@ -1,5 +1,5 @@
 -- Where the state is, and who made which entry, as views are replaced and added.
-use Rattle.std.proofs.Common.{◌≡◌, ◌≢◌, ℕ, true, List, [], ◌∷◌, ◌++◌, length, set, sym, ap, ◌∙◌, subst, ◌⊎◌, inl, inr, ⊎_elim}
+use Rattle.std.proofs.Common.{◌≡◌, ◌≢◌, ℕ, List, [], ◌∷◌, ◌++◌, length, set, sym, ap, ◌∙◌, subst, ◌⊎◌, inl, inr, ⊎_elim}
 use mathlib.Core.Logic.{dite}
 use mathlib.Core.Option.{Option}
 use native.Mathlib.Decide.{ℕ_discrete}
@@ -7,7 +7,6 @@ use Rattle.atomic_table.proofs.Lists.{at_set, set_here, set_else, at_longer}
 use Rattle.munge_types.specs.StandsFor.{Remembered}
 use Rattle.munge_types.specs.declared.history.Event.{Event}
 use Rattle.replay_gate.specs.declared.view.View.{View}
-use Rattle.replay_gate.specs.declared.view.Stage.TheVariants.{Serving}
 use Rattle.replay_gate.specs.Rule.{HasNumber, SomeHas, IsHome, IsServing}
 use Rattle.replay_gate.specs.Views.{At}
 use Rattle.replay_gate.proofs.Totals.{at_length, at_same, at_push}
