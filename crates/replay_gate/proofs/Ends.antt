@@ -7,14 +7,18 @@ use mathlib.Core.Logic.{dite}
 use mathlib.Core.Option.{some, some-injective, some-ne-none}
 use native.Mathlib.Decide.{ℕ_discrete}
 use Rattle.atomic_table.specs.Table.{State, opening, Final, Seen}
+use Rattle.munge_types.specs.StandsFor.{Remembered, Stands}
 use Rattle.munge_types.specs.declared.history.Event.{Event}
 use Rattle.replay_gate.specs.declared.view.View.{View}
 use Rattle.replay_gate.specs.declared.view.Stage.{Stage}
 use Rattle.replay_gate.specs.declared.view.Stage.TheVariants.{Resting, Serving}
-use Rattle.replay_gate.specs.Entries.{maker, is_of, any_by}
-use Rattle.replay_gate.specs.Steps.{worn_at, first_view}
+use Rattle.replay_gate.specs.Makers.{maker, any_by, AreMadeBy}
+use Rattle.replay_gate.specs.PassState.{pass_limit}
+use Rattle.replay_gate.specs.Rule.{HasNumber, Holds, Knows, share_of, SomeHas, IsHome, Kept, IsServing}
+use Rattle.replay_gate.specs.Stages.{HasTicket}
+use Rattle.replay_gate.specs.Views.{first_view, At}
+use Rattle.replay_gate.specs.Worn.{worn_at}
 use lib.ListN.{get_elem?}
-use Rattle.replay_gate.specs.Rule.{At, HasTicket, Holds, Knows, share_of, IsServed, IsHome, Kept}
 use Rattle.replay_gate.proofs.Totals.{at_same, total_two}
 use Rattle.replay_gate.proofs.Histories.{any_by-append, only_of, of_itself, goes_on_same}
 use Rattle.replay_gate.proofs.Stages.{holder_lives}
@@ -24,9 +28,9 @@ only_place : {A : Type 0} (a : A) (i : ℕ) (b : A) → get_elem? (a ∷ []) i �
 only_place a zero b e = (refl, some-injective a b e)
 only_place a (suc i) b e = absurd (some-ne-none b (sym e))
 
-module _ {S : Type 0} (stands : S → List Event → Type 0) (start passes : ℕ) where
-  pub opens : (state : S) → stands state [] → 0 < passes → passes < 4294967296 → start ≤ worn_at
-      → Kept stands start passes (opening (start ∷ start ∷ []) (state ∷ []) (first_view start passes))
+module _ {S : Type 0} (remembered : S → Remembered) (start passes : ℕ) where
+  pub opens : (state : S) → Stands (remembered state) [] → 0 < passes → passes < pass_limit → start ≤ worn_at
+      → Kept remembered start passes (opening (start ∷ start ∷ []) (state ∷ []) (first_view start passes))
   opens state stands_for several few begun =
       let v : View = first_view start passes in
       let one : (i : ℕ) (u : View) → At (v ∷ []) i u → (i ≡ 0) × (v ≡ u) = λ i u at. only_place v i u at in
@@ -66,26 +70,26 @@ module _ {S : Type 0} (stands : S → List Event → Type 0) (start passes : ℕ
       }
 
   -- the pass that stands for all others has seen everything, and no other is in a call
-  module _ (s : State S View) (kept : Kept stands start passes s) (id : ℕ) (v : View) (at : At s.views id v) (rests : v.stage ≡ Resting)
+  module _ (s : State S View) (kept : Kept remembered start passes s) (id : ℕ) (v : View) (at : At s.views id v) (rests : v.stage ≡ Resting)
       (all : v.share ≡ passes) where
     alone : (j : ℕ) (u : View) → At s.views j u → 0 < u.share → j ≡ id
     alone j u at_j alive = dite (ℕ_discrete j id) (λ e. e)
         (λ other. let h = total_two share_of s.views j id u v other at_j at in let t = kept.shares in absurd (omega arith))
 
-    pub idle_home : IsHome stands s kept.history
-    idle_home = ⊎_elim (λ (h : IsHome stands s kept.history). h)
-        (λ (t : IsServed kept.turn s.views).
-        let his : Holds t.1 kept.turn = subst (λ (z : Stage). HasTicket z kept.turn) (sym t.3) refl in
-        let alive = holder_lives start passes kept.ticket kept.turn kept.history t.1 kept.turn (kept.fits.each t.0 t.1 t.2) his in
-        let same = at_same s.views t.0 id t.1 v (alone t.0 t.1 t.2 alive) t.2 at in
-        let clash : Serving kept.turn ≡ Resting = sym t.3 ∙ (ap (λ (z : View). z.stage) same ∙ rests) in cc)
+    pub idle_home : IsHome remembered s kept.history
+    idle_home = ⊎_elim (λ (h : IsHome remembered s kept.history). h)
+        (λ (t : SomeHas IsServing s.views kept.turn).
+        let his : Holds t.view kept.turn = subst (λ (z : Stage). HasTicket z kept.turn) (sym t.has) refl in
+        let alive = holder_lives start passes kept.ticket kept.turn kept.history t.view kept.turn (kept.fits.each t.place t.view t.at) his in
+        let same = at_same s.views t.place id t.view v (alone t.place t.view t.at alive) t.at at in
+        let clash : Serving kept.turn ≡ Resting = sym t.has ∙ (ap (λ (z : View). z.stage) same ∙ rests) in cc)
         kept.home
 
-    pub all_made : (number : ℕ) → any_by (number ∷ []) kept.history ≡ true → is_of v.numbers number ≡ true
+    pub all_made : AreMadeBy v.numbers kept.history
     all_made number by =
         let m = kept.made number by in
-        let alive = (kept.fits.each m.0 m.1 m.2).living number m.3 in
-        subst (λ (z : View). is_of z.numbers number ≡ true) (at_same s.views m.0 id m.1 v (alone m.0 m.1 m.2 alive) m.2 at) m.3
+        let alive = (kept.fits.each m.place m.view m.at).living number m.has in
+        subst (λ (z : View). HasNumber z number) (at_same s.views m.place id m.view v (alone m.place m.view m.at alive) m.at at) m.has
 
     nothing_else : (others : List Event) → kept.history ≡ v.seen ++ others → any_by v.numbers others ≡ false → others ≡ []
     nothing_else [] is none = refl
@@ -112,24 +116,24 @@ module _ {S : Type 0} (stands : S → List Event → Type 0) (start passes : ℕ
         dite (ℕ_discrete kept.ticket kept.turn) (λ e. omega arith)
         (λ other.
         let h = kept.fits.held kept.turn (omega arith) (omega arith) in
-        let alive = holder_lives start passes kept.ticket kept.turn kept.history h.1 kept.turn (kept.fits.each h.0 h.1 h.2) h.3 in
-        let has : Holds v kept.turn = subst (λ (z : View). Holds z kept.turn) (at_same s.views h.0 id h.1 v (alone h.0 h.1 h.2 alive) h.2 at) h.3 in
+        let alive = holder_lives start passes kept.ticket kept.turn kept.history h.view kept.turn (kept.fits.each h.place h.view h.at) h.has in
+        let has : Holds v kept.turn = subst (λ (z : View). Holds z kept.turn) (at_same s.views h.place id h.view v (alone h.place h.view h.at alive) h.at at) h.has in
         let never : ⊥ = subst (λ (z : Stage). HasTicket z kept.turn) rests has in absurd never)
 
 -- what a closed table shows
-pub ends : {S : Type 0} (stands : S → List Event → Type 0) (start passes id : ℕ) (v : View) (words : List ℕ) (slots : List S)
-    → Final (Seen (Kept stands start passes) id v) words slots → v.stage ≡ Resting → v.share ≡ passes
+pub ends : {S : Type 0} (remembered : S → Remembered) (start passes id : ℕ) (v : View) (words : List ℕ) (slots : List S)
+    → Final (Seen (Kept remembered start passes) id v) words slots → v.stage ≡ Resting → v.share ≡ passes
     → (state : S) → get_elem? slots 0 ≡ some state
-    → stands state v.seen × (v.highest ≤ start + length v.seen) × ((number : ℕ) → any_by (number ∷ []) v.seen ≡ true → is_of v.numbers number ≡ true)
-ends stands start passes id v words slots final rests all state taken =
+    → Stands (remembered state) v.seen × (v.highest ≤ start + length v.seen) × AreMadeBy v.numbers v.seen
+ends remembered start passes id v words slots final rests all state taken =
     let s = final.0 in
     let kept = final.1.0 in
     let at = final.1.1 in
-    let home = idle_home stands start passes s kept id v at rests all in
-    let same = all_seen stands start passes s kept id v at rests all in
+    let home = idle_home remembered start passes s kept id v at rests all in
+    let same = all_seen remembered start passes s kept id v at rests all in
     let there = final.4 0 home.state (ap (λ l. get_elem? l 0) home.homes) in
     let is : home.state ≡ state = some-injective home.state state (sym there ∙ taken) in (
-      subst (λ (h : List Event). stands state h) same (subst (λ x. stands x kept.history) is home.stands_for),
-      all_served stands start passes s kept id v at rests all,
-      λ number by. all_made stands start passes s kept id v at rests all number (subst (λ (h : List Event). any_by (number ∷ []) h ≡ true) (sym same) by),
+      subst (Stands (remembered state)) same (subst (λ x. Stands (remembered x) kept.history) is home.stands_for),
+      all_served remembered start passes s kept id v at rests all,
+      subst (AreMadeBy v.numbers) same (all_made remembered start passes s kept id v at rests all),
     )

@@ -5,7 +5,8 @@ use Rattle.std.proofs.lemmas.List.{append-nil}
 use Rattle.std.proofs.lemmas.List.Folds.{list_any-append}
 use Rattle.std.proofs.lemmas.Bool.Decides.{Decides-eqb}
 use Rattle.munge_types.specs.declared.history.Event.{Event}
-use Rattle.replay_gate.specs.Entries.{maker, is_of, any_by, GoesOn}
+use Rattle.replay_gate.specs.GoesOn.{GoesOn}
+use Rattle.replay_gate.specs.Makers.{maker, is_of, any_by}
 
 pub not_true : (b : Bool) → (b ≡ true → ⊥) → b ≡ false
 not_true true never = absurd (never refl)

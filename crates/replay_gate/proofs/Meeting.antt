@@ -7,14 +7,18 @@ use native.Mathlib.Decide.{ℕ_discrete}
 use Rattle.std.proofs.lemmas.List.Sums.{sum_by_push}
 use Rattle.atomic_table.proofs.Lists.{at_set, set_here, set_else}
 use Rattle.atomic_table.specs.Table.{State, keeps, Allows, Splits, Joins}
+use Rattle.munge_types.specs.StandsFor.{Remembered}
 use Rattle.munge_types.specs.declared.history.Event.{Event}
 use Rattle.replay_gate.specs.declared.view.View.{View}
 use Rattle.replay_gate.specs.declared.view.Part.{Part}
 use Rattle.replay_gate.specs.declared.view.Stage.{Stage}
 use Rattle.replay_gate.specs.declared.view.Stage.TheVariants.{Resting, Meeting}
-use Rattle.replay_gate.specs.Entries.{is_of, GoesOn}
-use Rattle.replay_gate.specs.Steps.{at_stage, left_part, given_part, merged, gone, Met}
-use Rattle.replay_gate.specs.Rule.{At, IsUnspent, Owns, HasTicket, Holds, asking, asks, share_of, StageFits}
+use Rattle.replay_gate.specs.GoesOn.{GoesOn}
+use Rattle.replay_gate.specs.Makers.{is_of, IsOf}
+use Rattle.replay_gate.specs.Rule.{HasNumber, IsUnspent, Owns, Holds, asks, share_of}
+use Rattle.replay_gate.specs.Stages.{HasTicket, asking, StageFits}
+use Rattle.replay_gate.specs.Steps.{Met}
+use Rattle.replay_gate.specs.Views.{at_stage, left_part, given_part, merged, gone, At}
 use Rattle.replay_gate.proofs.Totals.{at_length, at_same, total_set, total_at}
 use Rattle.replay_gate.proofs.Histories.{one_of, is_of-append, only_of, of_itself, goes_on_fresh, goes_on_same, goes_on_none, fronts, goes_on_both}
 use Rattle.replay_gate.proofs.Replaced.{replaced, added}
@@ -43,14 +47,14 @@ longer_front numbers others first second history false short long one two =
 waits_at : (v : View) → v.stage ≡ Resting → Waits v
 waits_at v rests mine e = let clash = sym rests ∙ e in cc
 
-module _ {S : Type 0} (stands : S → List Event → Type 0) (start passes : ℕ) where
+module _ {S : Type 0} (remembered : S → Remembered) (start passes : ℕ) where
   free_at : (v : View) → v.stage ≡ Resting → (mine : ℕ) → Holds v mine → ⊥
   free_at v rests mine has = subst (λ (z : Stage). HasTicket z mine) rests has
 
   -- ---- a pass is cut in two
 
   pub splits_allowed : (id : ℕ) (v : View) (count : ℕ) → v.stage ≡ Resting → 0 < count → count ≤ v.spare
-      → Splits (Rule stands start passes) id v (left_part count v) (given_part count v)
+      → Splits (Rule remembered start passes) id v (left_part count v) (given_part count v)
   splits_allowed id v count rests some_given within s kept at =
       let knows = kept.fits.each id v at in
       let left : View = left_part count v in
@@ -79,9 +83,9 @@ module _ {S : Type 0} (stands : S → List Event → Type 0) (start passes : ℕ
         stage = subst (StageFits kept.ticket kept.turn kept.history left) (sym rests) tt;
       }
       (λ j u other at_j. kept.fits.each j u at_j)
-      (same_owner stands start passes s kept id v left at from_left)
+      (same_owner remembered start passes s kept id v left at from_left)
       (λ j u mine other at_j has _. free_at v rests mine has)
-      (λ mine low high. inr (held_by_others stands start passes s kept id v mine at (free_at v rests mine) low high)) in
+      (λ mine low high. inr (held_by_others remembered start passes s kept id v mine at (free_at v rests mine) low high)) in
       record {
         ticket = kept.ticket;
         turn = kept.turn;
@@ -121,14 +125,14 @@ module _ {S : Type 0} (stands : S → List Event → Type 0) (start passes : ℕ
             (at_set s.views id j left u at_j))
             (λ mine has. free_at v rests mine has);
         made = λ number by. made_push views right number (made_set s.views id v left number at (λ has. has) (kept.made number by));
-        home = home_push stands kept.turn kept.history s.words s.words s.homes views right (waits_at right rests)
-            (home_set stands kept.turn kept.history s.words s.words s.homes s.views id v left at (waits_at v rests) (waits_at left rests) kept.home);
+        home = home_push remembered kept.turn kept.history s.words s.words s.homes views right (waits_at right rests)
+            (home_set remembered kept.turn kept.history s.words s.words s.homes s.views id v left at (waits_at v rests) (waits_at left rests) kept.home);
       }
 
   -- ---- a pass takes another in
 
   pub joins_allowed : (id : ℕ) (v : View) (other : ℕ) (w : View) → v.stage ≡ Resting → w.stage ≡ Resting → 0 < v.share
-      → Joins (Rule stands start passes) id v other w (merged v w) gone
+      → Joins (Rule remembered start passes) id v other w (merged v w) gone
   joins_allowed id v other w rests rests_too alive s kept at ne at_both =
       let both : View = merged v w in
       let at_w : At s.views other w = sym (set_else s.views id other both ne) ∙ at_both in
@@ -159,7 +163,7 @@ module _ {S : Type 0} (stands : S → List Event → Type 0) (start passes : ℕ
       (λ j u apart at_j. kept.fits.each j u at_j)
       (λ j u number apart at_j owns _. ⊎_elim (λ (h : false ≡ true). cc) (λ (h : IsUnspent gone number). let low = h.0 in let high = h.1 in omega arith) owns)
       (λ j u mine apart at_j has _. has)
-      (λ mine low high. inr (held_by_others stands start passes s kept other w mine at_w (free_at w rests_too mine) low high)) in
+      (λ mine low high. inr (held_by_others remembered start passes s kept other w mine at_w (free_at w rests_too mine) low high)) in
       let nobody_else : (j : ℕ) (u : View) (number : ℕ) → j ≢ id → At without j u → Owns both number → Owns u number → ⊥ =
       λ j u number apart at_j mine his. ⊎_elim
       (λ (t : (j ≡ other) × (gone ≡ u)). ⊎_elim (λ (h : false ≡ true). let z : ⊥ = cc in z) (λ (h : IsUnspent gone number). let low = h.0 in let high = h.1 in let z : ⊥ = omega arith in z)
@@ -182,14 +186,19 @@ module _ {S : Type 0} (stands : S → List Event → Type 0) (start passes : ℕ
         own = λ _. is_of-append v.numbers w.numbers v.number ∙ ap (λ z. z || is_of w.numbers v.number) (knows.own alive);
         living = λ number has. omega arith;
         spares = λ more. let h = knows.spares more in omega arith;
-        stage = (omega arith, fronts.0, fronts.1, λ number mine his. ne (kept.fits.one_owner other id w v number at_w at (inl his) (inl mine)));
+        stage = record {
+          alive = omega arith;
+          first_goes_on = fronts.0;
+          second_goes_on = fronts.1;
+          apart = λ number mine his. ne (kept.fits.one_owner other id w v number at_w at (inl his) (inl mine));
+        };
       }
       (λ j u apart at_j. fits_without.each j u at_j)
       nobody_else
       (λ j u mine apart at_j has _. has)
       (λ mine low high. let h = fits_without.held mine low high in
-      inr (h.0, h.1, (λ e. free_at v rests mine (subst (λ (z : View). Holds z mine) (at_same without h.0 id h.1 v e h.2 at_v) h.3)), h.2, h.3)) in
-      subst (λ (z : List View). Rule stands start passes (record { words = s.words; homes = s.homes; views = z })) swapped
+      inr (h.place, h.view, (λ e. free_at v rests mine (subst (λ (z : View). Holds z mine) (at_same without h.place id h.view v e h.at at_v) h.has)), h.at, h.has)) in
+      subst (λ (z : List View). Rule remembered start passes (record { words = s.words; homes = s.homes; views = z })) swapped
       record {
         ticket = kept.ticket;
         turn = kept.turn;
@@ -211,31 +220,36 @@ module _ {S : Type 0} (stands : S → List Event → Type 0) (start passes : ℕ
         fits = fits;
         made = λ number by. let m = kept.made number by in
             let here = set_here without id both (at_length without id v at_v) in
-            dite (ℕ_discrete m.0 id)
-            (λ e. (
-              id,
-              both,
-              here,
-              is_of-append v.numbers w.numbers number
-                  ∙ ap (λ z. z || is_of w.numbers number) (subst (λ (z : View). is_of z.numbers number ≡ true) (at_same s.views m.0 id m.1 v e m.2 at) m.3),
-            ))
-            (λ apart. dite (ℕ_discrete m.0 other)
-            (λ e. (
-              id,
-              both,
-              here,
-              is_of-append v.numbers w.numbers number
-                  ∙ (ap (λ z. is_of v.numbers number || z) (subst (λ (z : View). is_of z.numbers number ≡ true) (at_same s.views m.0 other m.1 w e m.2 at_w) m.3) ∙ or-true (is_of v.numbers number)),
-            ))
-            (λ away. (m.0, m.1, set_else without id m.0 both apart ∙ (set_else s.views other m.0 gone away ∙ m.2), m.3)));
-        home = home_set stands kept.turn kept.history s.words s.words s.homes without id v both at_v (waits_at v rests) (λ mine e. cc)
-            (home_set stands kept.turn kept.history s.words s.words s.homes s.views other w gone at_w (waits_at w rests_too) (λ mine e. cc) kept.home);
+            dite (ℕ_discrete m.place id)
+            (λ e. record {
+              place = id;
+              view = both;
+              at = here;
+              has = is_of-append v.numbers w.numbers number
+                  ∙ ap (λ z. z || is_of w.numbers number) (subst (λ (z : View). HasNumber z number) (at_same s.views m.place id m.view v e m.at at) m.has);
+            })
+            (λ apart. dite (ℕ_discrete m.place other)
+            (λ e. record {
+              place = id;
+              view = both;
+              at = here;
+              has = is_of-append v.numbers w.numbers number
+                  ∙ (ap (λ z. is_of v.numbers number || z) (subst (λ (z : View). HasNumber z number) (at_same s.views m.place other m.view w e m.at at_w) m.has) ∙ or-true (is_of v.numbers number));
+            })
+            (λ away. record {
+              place = m.place;
+              view = m.view;
+              at = set_else without id m.place both apart ∙ (set_else s.views other m.place gone away ∙ m.at);
+              has = m.has;
+            }));
+        home = home_set remembered kept.turn kept.history s.words s.words s.homes without id v both at_v (waits_at v rests) (λ mine e. cc)
+            (home_set remembered kept.turn kept.history s.words s.words s.homes s.views other w gone at_w (waits_at w rests_too) (λ mine e. cc) kept.home);
       }
 
   -- ---- what two passes had seen is compared
 
-  compared : (s : State S View) (kept : Rule stands start passes s) (id : ℕ) (v : View) (first second : Part) → v.stage ≡ Meeting first second → At s.views id v
-      → Goal stands start passes s id (v, []) 0 (λ n. n) (λ found. Met (v, [])) (kept.ticket ∷ kept.turn ∷ [])
+  compared : (s : State S View) (kept : Rule remembered start passes s) (id : ℕ) (v : View) (first second : Part) → v.stage ≡ Meeting first second → At s.views id v
+      → Goal remembered start passes s id (v, []) 0 (λ n. n) (λ found. Met (v, [])) (kept.ticket ∷ kept.turn ∷ [])
   compared s kept id v first second meets at =
       let knows = kept.fits.each id v at in
       let w : View = at_stage Resting v in
@@ -267,11 +281,11 @@ module _ {S : Type 0} (stands : S → List Event → Type 0) (start passes : ℕ
                 stage = tt;
               }
               (λ j u other at_j. kept.fits.each j u at_j)
-              (same_owner stands start passes s kept id v w at (λ number owns. owns))
+              (same_owner remembered start passes s kept id v w at (λ number owns. owns))
               (λ j u mine other at_j has _. has)
-              (λ mine low high. inr (held_by_others stands start passes s kept id v mine at (free mine) low high));
+              (λ mine low high. inr (held_by_others remembered start passes s kept id v mine at (free mine) low high));
           made = λ number by. made_set s.views id v w number at (λ has. has) (kept.made number by);
-          home = home_set stands kept.turn kept.history s.words (kept.ticket ∷ kept.turn ∷ []) s.homes s.views id v w at
+          home = home_set remembered kept.turn kept.history s.words (kept.ticket ∷ kept.turn ∷ []) s.homes s.views id v w at
               (λ mine e. let clash = sym meets ∙ e in cc) (λ mine e. cc) kept.home;
         },
         λ one two same. let parts = sym meets ∙ same in
@@ -279,10 +293,10 @@ module _ {S : Type 0} (stands : S → List Event → Type 0) (start passes : ℕ
             let is_two : second ≡ two = cc in
             record {
               after_is = refl;
-              has_first = subst (λ (z : Part). GoesOn z.numbers z.seen v.seen) is_one fits.1;
-              has_second = subst (λ (z : Part). GoesOn z.numbers z.seen v.seen) is_two fits.2;
-              apart = λ number mine his. fits.3 number (subst (λ (z : Part). is_of z.numbers number ≡ true) (sym is_one) mine)
-                  (subst (λ (z : Part). is_of z.numbers number ≡ true) (sym is_two) his);
+              first_goes_on = subst (λ (z : Part). GoesOn z.numbers z.seen v.seen) is_one fits.first_goes_on;
+              second_goes_on = subst (λ (z : Part). GoesOn z.numbers z.seen v.seen) is_two fits.second_goes_on;
+              apart = λ number mine his. fits.apart number (subst (λ (z : Part). IsOf z.numbers number) (sym is_one) mine)
+                  (subst (λ (z : Part). IsOf z.numbers number) (sym is_two) his);
               few =
                   (let share = total_at share_of s.views id v at in
                   let all = kept.shares in
@@ -291,6 +305,6 @@ module _ {S : Type 0} (stands : S → List Event → Type 0) (start passes : ℕ
       )
 
   pub compares_allowed : (slots id : ℕ) (v : View) (first second : Part) → v.stage ≡ Meeting first second
-      → Allows (Rule stands start passes) slots id (v, []) 0 (λ n. n) (λ found. Met (v, []))
+      → Allows (Rule remembered start passes) slots id (v, []) 0 (λ n. n) (λ found. Met (v, []))
   compares_allowed slots id v first second meets s kept len at bound =
-      subst (Goal stands start passes s id (v, []) 0 (λ n. n) (λ found. Met (v, []))) (sym kept.words) (compared s kept id v first second meets at)
+      subst (Goal remembered start passes s id (v, []) 0 (λ n. n) (λ found. Met (v, []))) (sym kept.words) (compared s kept id v first second meets at)

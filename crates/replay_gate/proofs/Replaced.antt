@@ -3,12 +3,9 @@ use Rattle.std.proofs.Common.{◌≡◌, ◌≢◌, ℕ, ◌≤◌, ◌<◌, Lis
 use Rattle.atomic_table.proofs.Lists.{at_set, set_here, set_else, at_longer}
 use Rattle.munge_types.specs.declared.history.Event.{Event}
 use Rattle.replay_gate.specs.declared.view.View.{View}
-use Rattle.replay_gate.specs.Rule.{At, Owns, Holds, Knows, Fits}
+use Rattle.replay_gate.specs.Rule.{IsUnique, Owns, Holds, Knows, Fits}
+use Rattle.replay_gate.specs.Views.{At}
 use Rattle.replay_gate.proofs.Totals.{at_length, at_same, at_push}
-
--- no two views have a number of this kind in common
-abbrev Unique : (View → ℕ → Type 0) → List View → Type 0
-Unique P views = (i j : ℕ) (v w : View) (number : ℕ) → At views i v → At views j w → P v number → P w number → i ≡ j
 
 -- no view but the one at i has a number of this kind that w has
 abbrev pub Apart : (View → ℕ → Type 0) → List View → ℕ → View → Type 0
@@ -18,7 +15,7 @@ Apart P views i w = (j : ℕ) (u : View) (number : ℕ) → j ≢ i → At views
 abbrev pub HeldElse : List View → ℕ → ℕ → Type 0
 HeldElse views i mine = (j : ℕ) × (u : View) × (j ≢ i) × At views j u × Holds u mine
 
-unique_set : (P : View → ℕ → Type 0) (views : List View) (i : ℕ) (w : View) → Unique P views → Apart P views i w → Unique P (set views i w)
+unique_set : (P : View → ℕ → Type 0) (views : List View) (i : ℕ) (w : View) → IsUnique P views → Apart P views i w → IsUnique P (set views i w)
 unique_set P views i w unique apart j k u x number at_j at_k has_u has_x =
     ⊎_elim (λ (s : (j ≡ i) × (w ≡ u)). ⊎_elim (λ (t : (k ≡ i) × (w ≡ x)). s.0 ∙ sym t.0)
     (λ (t : (k ≢ i) × At views k x). absurd (apart k x number t.0 t.1 (subst (λ z. P z number) (sym s.1) has_u) has_x)) (at_set views i k w x at_k))
@@ -26,8 +23,8 @@ unique_set P views i w unique apart j k u x number at_j at_k has_u has_x =
     (λ (t : (k ≢ i) × At views k x). unique j k u x number s.1 t.1 has_u has_x) (at_set views i k w x at_k))
     (at_set views i j w u at_j)
 
-unique_push : (P : View → ℕ → Type 0) (views : List View) (w : View) → Unique P views
-    → ((j : ℕ) (u : View) (number : ℕ) → At views j u → P w number → P u number → ⊥) → Unique P (views ++ w ∷ [])
+unique_push : (P : View → ℕ → Type 0) (views : List View) (w : View) → IsUnique P views
+    → ((j : ℕ) (u : View) (number : ℕ) → At views j u → P w number → P u number → ⊥) → IsUnique P (views ++ w ∷ [])
 unique_push P views w unique apart j k u x number at_j at_k has_u has_x =
     ⊎_elim (λ (s : At views j u). ⊎_elim (λ (t : At views k x). unique j k u x number s t has_u has_x)
     (λ (t : (k ≡ length views) × (w ≡ x)). absurd (apart j u number s (subst (λ z. P z number) (sym t.1) has_x) has_u)) (at_push views w x k at_k))
@@ -51,8 +48,9 @@ module _ (start passes : ℕ) where
         (λ (t : (j ≢ i) × At views j u). others j u t.0 t.1) (at_set views i j w u at_j);
     one_owner = unique_set Owns views i w fits.one_owner owns;
     one_holder = unique_set Holds views i w fits.one_holder holds;
-    held = λ mine low high. ⊎_elim (λ (h : Holds w mine). (i, w, set_here views i w (at_length views i v at), h))
-        (λ (t : HeldElse views i mine). (t.0, t.1, set_else views i t.0 w t.2 ∙ t.3, t.4)) (held mine low high);
+    held = λ mine low high. ⊎_elim
+        (λ (h : Holds w mine). record { place = i; view = w; at = set_here views i w (at_length views i v at); has = h })
+        (λ (t : HeldElse views i mine). record { place = t.0; view = t.1; at = set_else views i t.0 w t.2 ∙ t.3; has = t.4 }) (held mine low high);
   }
 
   -- a view without a ticket is added
@@ -67,7 +65,8 @@ module _ (start passes : ℕ) where
         (λ (t : (j ≡ length views) × (w ≡ u)). subst (Knows start passes ticket turn history) t.1 knows) (at_push views w u j at);
     one_owner = unique_push Owns views w fits.one_owner owns;
     one_holder = unique_push Holds views w fits.one_holder (λ j u mine at holds _. free mine holds);
-    held = λ mine low high. let h = fits.held mine low high in (h.0, h.1, at_longer views (w ∷ []) h.0 h.1 h.2, h.3);
+    held = λ mine low high. let h = fits.held mine low high in
+        record { place = h.place; view = h.view; at = at_longer views (w ∷ []) h.place h.view h.at; has = h.has };
   }
 
 -- a ticket that the view at i has not is another's

@@ -4,8 +4,9 @@ use Rattle.munge_types.specs.declared.history.Event.{Event}
 use Rattle.replay_gate.specs.declared.view.View.{View}
 use Rattle.replay_gate.specs.declared.view.Stage.{Stage}
 use Rattle.replay_gate.specs.declared.view.Stage.TheVariants.{Resting, Asking, Waiting, Serving, Meeting}
-use Rattle.replay_gate.specs.Entries.{maker, is_of, any_by}
-use Rattle.replay_gate.specs.Rule.{IsUnspent, HasTicket, Holds, asking, asks, StageFits, Knows}
+use Rattle.replay_gate.specs.Makers.{maker, is_of, any_by}
+use Rattle.replay_gate.specs.Rule.{IsUnspent, Holds, asks, Knows}
+use Rattle.replay_gate.specs.Stages.{HasTicket, asking, StageFits}
 use Rattle.replay_gate.proofs.Histories.{not_true, both_false, any_by-append, only_of, goes_on_entry}
 
 module _ (ticket turn : ℕ) (history : List Event) where
@@ -13,17 +14,17 @@ module _ (ticket turn : ℕ) (history : List Event) where
   stage_shares : (v : View) (stage : Stage) → StageFits ticket turn history v stage → asking stage ≤ v.share
   stage_shares v Resting fits = omega arith
   stage_shares v Asking fits = omega arith
-  stage_shares v (Waiting mine) fits = omega arith
-  stage_shares v (Serving mine) fits = omega arith
-  stage_shares v (Meeting first second) fits = omega arith
+  stage_shares v (Waiting mine) fits = let alive = fits.alive in omega arith
+  stage_shares v (Serving mine) fits = let alive = fits.alive in omega arith
+  stage_shares v (Meeting first second) fits = let alive = fits.alive in omega arith
 
   -- a pass that is in a call has a share
   stage_lives : (v : View) (stage : Stage) (mine : ℕ) → StageFits ticket turn history v stage → HasTicket stage mine → 0 < v.share
   stage_lives v Resting other fits has = absurd has
   stage_lives v Asking other fits has = absurd has
   stage_lives v (Meeting first second) other fits has = absurd has
-  stage_lives v (Waiting mine) other fits has = fits.0
-  stage_lives v (Serving mine) other fits has = fits.0
+  stage_lives v (Waiting mine) other fits has = fits.alive
+  stage_lives v (Serving mine) other fits has = fits.alive
 
   -- a ticket was drawn and not yet served
   stage_within : (v : View) (stage : Stage) (mine : ℕ) → StageFits ticket turn history v stage → HasTicket stage mine
@@ -31,15 +32,15 @@ module _ (ticket turn : ℕ) (history : List Event) where
   stage_within v Resting other fits has = absurd has
   stage_within v Asking other fits has = absurd has
   stage_within v (Meeting first second) other fits has = absurd has
-  stage_within v (Waiting mine) other fits has = let low = fits.1 in let high = fits.2 in (omega arith, omega arith)
-  stage_within v (Serving mine) other fits has = let low = fits.1 in let high = fits.2 in (omega arith, omega arith)
+  stage_within v (Waiting mine) other fits has = let low = fits.not_served in let high = fits.drawn in (omega arith, omega arith)
+  stage_within v (Serving mine) other fits has = let low = fits.has_turn in let high = fits.drawn in (omega arith, omega arith)
 
   stage_later : (later : ℕ) (v : View) (stage : Stage) → ticket ≤ later → StageFits ticket turn history v stage
       → StageFits later turn history v stage
   stage_later later v Resting more fits = tt
   stage_later later v Asking more fits = fits
-  stage_later later v (Waiting mine) more fits = let high = fits.2 in (fits.0, fits.1, omega arith)
-  stage_later later v (Serving mine) more fits = let high = fits.2 in (fits.0, fits.1, omega arith, fits.3)
+  stage_later later v (Waiting mine) more fits = let high = fits.drawn in record { alive = fits.alive; not_served = fits.not_served; drawn = omega arith }
+  stage_later later v (Serving mine) more fits = let high = fits.drawn in record { alive = fits.alive; has_turn = fits.has_turn; drawn = omega arith; whole = fits.whole }
   stage_later later v (Meeting first second) more fits = fits
 
   stage_entry : (entry : Event) (v : View) (stage : Stage) → (HasTicket stage turn → ⊥) → StageFits ticket turn history v stage
@@ -47,9 +48,9 @@ module _ (ticket turn : ℕ) (history : List Event) where
   stage_entry entry v Resting other fits = tt
   stage_entry entry v Asking other fits = fits
   stage_entry entry v (Waiting mine) other fits =
-      let low = fits.1 in
-      let apart : mine ≢ turn = other in (fits.0, omega arith, fits.2)
-  stage_entry entry v (Serving mine) other fits = absurd (other fits.1)
+      let low = fits.not_served in
+      let apart : mine ≢ turn = other in record { alive = fits.alive; not_served = omega arith; drawn = fits.drawn }
+  stage_entry entry v (Serving mine) other fits = absurd (other fits.has_turn)
   stage_entry entry v (Meeting first second) other fits = fits
 
 module _ (start passes ticket turn : ℕ) (history : List Event) where

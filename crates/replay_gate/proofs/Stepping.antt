@@ -7,12 +7,16 @@ use mathlib.Core.Option.{Option, some}
 use native.Mathlib.Decide.{ℕ_discrete}
 use Rattle.std.specs.List.{sum_by}
 use Rattle.atomic_table.specs.Table.{State, Me, Act, keeps, Valid, homes_after, carried_after, Allows}
+use Rattle.munge_types.specs.StandsFor.{Remembered}
 use Rattle.munge_types.specs.declared.history.Event.{Event}
 use Rattle.replay_gate.specs.declared.view.View.{View}
 use Rattle.replay_gate.specs.declared.view.Stage.{Stage}
 use Rattle.replay_gate.specs.declared.view.Stage.TheVariants.{Resting, Asking, Waiting, Serving}
-use Rattle.replay_gate.specs.Steps.{worn_at, heard, at_stage, Asked, Drew}
-use Rattle.replay_gate.specs.Rule.{At, Owns, HasTicket, Holds, asking, asks, share_of, StageFits, Kept}
+use Rattle.replay_gate.specs.Rule.{Owns, Holds, asks, share_of, Kept}
+use Rattle.replay_gate.specs.Stages.{HasTicket, asking, StageFits}
+use Rattle.replay_gate.specs.Steps.{Asked, Drew}
+use Rattle.replay_gate.specs.Views.{heard, at_stage, At}
+use Rattle.replay_gate.specs.Worn.{worn_at}
 use Rattle.replay_gate.proofs.Totals.{total_set, total_at, total_le}
 use Rattle.replay_gate.proofs.Replaced.{Apart, HeldElse, replaced, held_else}
 use Rattle.replay_gate.proofs.Stages.{asks_share, holds_within, knows_later}
@@ -42,9 +46,9 @@ one_home [] x e = absurd (omega arith)
 one_home (h ∷ []) x e = refl
 one_home (h ∷ k ∷ ks) x e = absurd (omega arith)
 
-module _ {S : Type 0} (stands : S → List Event → Type 0) (start passes : ℕ) where
+module _ {S : Type 0} (remembered : S → Remembered) (start passes : ℕ) where
   abbrev pub Rule : State S View → Type 0
-  Rule = Kept stands start passes
+  Rule = Kept remembered start passes
 
   -- what a step asks, with the words given
   abbrev pub Goal : State S View → ℕ → Me S View → ℕ → (ℕ → ℕ) → (ℕ → Me S View → Type 0) → List ℕ → Type 0
@@ -53,7 +57,7 @@ module _ {S : Type 0} (stands : S → List Event → Type 0) (start passes : ℕ
       × Rule record { words = set words i (f (get_or words i 0)); homes = homes_after s.homes me.1 a; views = set s.views id w }
       × then (get_or words i 0) (w, carried_after me.1 a)
 
-  pub placed : (s : State S View) (kept : Rule s) → Placed stands kept.turn kept.history s.words s.homes s.views
+  pub placed : (s : State S View) (kept : Rule s) → Placed remembered kept.turn kept.history s.words s.homes s.views
   placed s kept = kept.home
 
   pub few_asks : (s : State S View) (kept : Rule s) → sum_by asks s.views ≤ passes
@@ -75,7 +79,7 @@ module _ {S : Type 0} (stands : S → List Event → Type 0) (start passes : ℕ
   pub held_by_others : (s : State S View) (kept : Rule s) (id : ℕ) (v : View) (mine : ℕ) → At s.views id v → (Holds v mine → ⊥)
       → kept.turn ≤ mine → mine < kept.ticket → HeldElse s.views id mine
   held_by_others s kept id v mine at free low high =
-      let h = kept.fits.held mine low high in held_else s.views id v mine at free h.0 h.1 h.2 h.3
+      let h = kept.fits.held mine low high in held_else s.views id v mine at free h.place h.view h.at h.has
 
   -- ---- the ticket word is read
 
@@ -119,7 +123,7 @@ module _ {S : Type 0} (stands : S → List Event → Type 0) (start passes : ℕ
               (λ j u mine other at_j has _. heard_free b mine has)
               (λ mine low high. inr (held_by_others s kept id v mine at (free mine) low high));
           made = λ number by. made_set s.views id v w number at (λ has. has) (kept.made number by);
-          home = home_set stands kept.turn kept.history s.words (kept.ticket ∷ kept.turn ∷ []) s.homes s.views id v w at
+          home = home_set remembered kept.turn kept.history s.words (kept.ticket ∷ kept.turn ∷ []) s.homes s.views id v w at
               (λ mine e. let clash = sym rests ∙ e in cc) (heard_waits b) (placed s kept);
         },
         record { not_below = knows.highest; after_is = refl },
@@ -169,7 +173,7 @@ module _ {S : Type 0} (stands : S → List Event → Type 0) (start passes : ℕ
                 own = knows.own;
                 living = knows.living;
                 spares = knows.spares;
-                stage = (alive, drawn, omega arith);
+                stage = record { alive = alive; not_served = drawn; drawn = omega arith };
               }
               (λ j u other at_j. knows_later start passes kept.ticket kept.turn kept.history (kept.ticket + 1) u (omega arith) (kept.fits.each j u at_j))
               (same_owner s kept id v w at (λ number owns. owns))
@@ -178,7 +182,7 @@ module _ {S : Type 0} (stands : S → List Event → Type 0) (start passes : ℕ
               (λ mine low high. dite (ℕ_discrete kept.ticket mine) (λ e. inl e)
               (λ other. inr (held_by_others s kept id v mine at (free mine) low (omega arith))));
           made = λ number by. made_set s.views id v w number at (λ has. has) (kept.made number by);
-          home = home_set stands kept.turn kept.history s.words (((kept.ticket + 1) % 2 ^ 64) ∷ kept.turn ∷ []) s.homes s.views id v w at
+          home = home_set remembered kept.turn kept.history s.words (((kept.ticket + 1) % 2 ^ 64) ∷ kept.turn ∷ []) s.homes s.views id v w at
               (λ mine e. let clash = sym asked ∙ e in cc) (λ mine e. cc) (placed s kept);
         },
         record { fits = omega arith; after_is = refl },

@@ -7,13 +7,17 @@ use native.Mathlib.Decide.{ℕ_discrete}
 use lib.ListN.{get_elem?}
 use Rattle.atomic_table.proofs.Lists.{at_set, set_here, set_again}
 use Rattle.atomic_table.specs.Table.{State, keeps, takes, gives, Allows}
+use Rattle.munge_types.specs.StandsFor.{Remembered, Stands}
 use Rattle.munge_types.specs.declared.history.Event.{Event}
 use Rattle.replay_gate.specs.declared.view.View.{View}
 use Rattle.replay_gate.specs.declared.view.Stage.{Stage}
 use Rattle.replay_gate.specs.declared.view.Stage.TheVariants.{Resting, Waiting, Serving}
-use Rattle.replay_gate.specs.Entries.{maker, is_of, any_by, GoesOn}
-use Rattle.replay_gate.specs.Steps.{serving, entered, Looked, Left}
-use Rattle.replay_gate.specs.Rule.{At, IsUnspent, HasTicket, Holds, asking, asks, share_of, StageFits, IsServed, IsHome}
+use Rattle.replay_gate.specs.GoesOn.{GoesOn}
+use Rattle.replay_gate.specs.Makers.{maker, is_of, IsOf, any_by}
+use Rattle.replay_gate.specs.Rule.{IsUnspent, Holds, asks, share_of, SomeHas, IsHome, IsServing}
+use Rattle.replay_gate.specs.Stages.{HasTicket, asking, StageFits}
+use Rattle.replay_gate.specs.Steps.{Looked, Left}
+use Rattle.replay_gate.specs.Views.{serving, entered, At}
 use Rattle.replay_gate.proofs.Totals.{at_length, at_same, total_set}
 use Rattle.replay_gate.proofs.Histories.{not_true, one_of, any_by-append, only_of, goes_on_same}
 use Rattle.replay_gate.proofs.Replaced.{replaced}
@@ -21,24 +25,24 @@ use Rattle.replay_gate.proofs.Stages.{holder_lives, holds_within, fresh_entry, k
 use Rattle.replay_gate.proofs.Homes.{IsMade, made_set}
 use Rattle.replay_gate.proofs.Stepping.{Rule, Goal, same_owner, same_holder, held_by_others, one_home}
 
-module _ {S : Type 0} (stands : S → List Event → Type 0) (start passes : ℕ) where
+module _ {S : Type 0} (remembered : S → Remembered) (start passes : ℕ) where
   -- ---- the serving word is read
 
   -- the ticket's turn has come, so no other pass has it, and the state is at home
-  is_home : (s : State S View) (kept : Rule stands start passes s) (id : ℕ) (v : View) → v.stage ≡ Waiting kept.turn → At s.views id v
-      → IsHome stands s kept.history
+  is_home : (s : State S View) (kept : Rule remembered start passes s) (id : ℕ) (v : View) → v.stage ≡ Waiting kept.turn → At s.views id v
+      → IsHome remembered s kept.history
   is_home s kept id v waits at =
-      ⊎_elim (λ (h : IsHome stands s kept.history). h)
-      (λ (t : IsServed kept.turn s.views).
-      let his : Holds t.1 kept.turn = subst (λ (z : Stage). HasTicket z kept.turn) (sym t.3) refl in
+      ⊎_elim (λ (h : IsHome remembered s kept.history). h)
+      (λ (t : SomeHas IsServing s.views kept.turn).
+      let his : Holds t.view kept.turn = subst (λ (z : Stage). HasTicket z kept.turn) (sym t.has) refl in
       let mine : Holds v kept.turn = subst (λ (z : Stage). HasTicket z kept.turn) (sym waits) refl in
-      let same : t.0 ≡ id = kept.fits.one_holder t.0 id t.1 v kept.turn t.2 at his mine in
-      let stage : t.1.stage ≡ v.stage = ap (λ (z : View). z.stage) (at_same s.views t.0 id t.1 v same t.2 at) in
-      let clash : Serving kept.turn ≡ Waiting kept.turn = sym t.3 ∙ (stage ∙ waits) in cc)
+      let same : t.place ≡ id = kept.fits.one_holder t.place id t.view v kept.turn t.at at his mine in
+      let stage : t.view.stage ≡ v.stage = ap (λ (z : View). z.stage) (at_same s.views t.place id t.view v same t.at at) in
+      let clash : Serving kept.turn ≡ Waiting kept.turn = sym t.has ∙ (stage ∙ waits) in cc)
       kept.home
 
-  came : (s : State S View) (kept : Rule stands start passes s) (id : ℕ) (v : View) → v.stage ≡ Waiting kept.turn → At s.views id v
-      → Goal stands start passes s id (v, []) 1 (λ n. n) (Looked stands (v, [])) (kept.ticket ∷ kept.turn ∷ [])
+  came : (s : State S View) (kept : Rule remembered start passes s) (id : ℕ) (v : View) → v.stage ≡ Waiting kept.turn → At s.views id v
+      → Goal remembered start passes s id (v, []) 1 (λ n. n) (Looked remembered (v, [])) (kept.ticket ∷ kept.turn ∷ [])
   came s kept id v waits at =
       let knows = kept.fits.each id v at in
       let home = is_home s kept id v waits at in
@@ -75,15 +79,15 @@ module _ {S : Type 0} (stands : S → List Event → Type 0) (start passes : ℕ
                 own = knows.own;
                 living = knows.living;
                 spares = knows.spares;
-                stage = (alive, refl, within.1, refl);
+                stage = record { alive = alive; has_turn = refl; drawn = within.1; whole = refl };
               }
               (λ j u other at_j. kept.fits.each j u at_j)
-              (same_owner stands start passes s kept id v w at (λ number owns. owns))
-              (same_holder stands start passes s kept id v w at back)
+              (same_owner remembered start passes s kept id v w at (λ number owns. owns))
+              (same_holder remembered start passes s kept id v w at back)
               (λ ticket low high. dite (ℕ_discrete kept.turn ticket) (λ e. inl e)
-              (λ other. inr (held_by_others stands start passes s kept id v ticket at (λ has. other (forth ticket has)) low high)));
+              (λ other. inr (held_by_others remembered start passes s kept id v ticket at (λ has. other (forth ticket has)) low high)));
           made = λ number by. made_set s.views id v w number at (λ has. has) (kept.made number by);
-          home = inr (id, w, set_here s.views id w (at_length s.views id v at), refl);
+          home = inr record { place = id; view = w; at = set_here s.views id w (at_length s.views id v at); has = refl };
         },
         record {
           turn = λ _. record {
@@ -98,29 +102,29 @@ module _ {S : Type 0} (stands : S → List Event → Type 0) (start passes : ℕ
         },
       )
 
-  stayed : (s : State S View) (kept : Rule stands start passes s) (id : ℕ) (v : View) → v.stage ≢ Waiting kept.turn → At s.views id v
-      → Goal stands start passes s id (v, []) 1 (λ n. n) (Looked stands (v, [])) (kept.ticket ∷ kept.turn ∷ [])
+  stayed : (s : State S View) (kept : Rule remembered start passes s) (id : ℕ) (v : View) → v.stage ≢ Waiting kept.turn → At s.views id v
+      → Goal remembered start passes s id (v, []) 1 (λ n. n) (Looked remembered (v, [])) (kept.ticket ∷ kept.turn ∷ [])
   stayed s kept id v other at = (
     v,
     keeps,
     tt,
-    subst (λ (z : List View). Rule stands start passes (record { words = kept.ticket ∷ kept.turn ∷ []; homes = s.homes; views = z })) (sym (set_again s.views id v at))
-        (subst (λ (z : List ℕ). Rule stands start passes (record { words = z; homes = s.homes; views = s.views })) kept.words kept),
+    subst (λ (z : List View). Rule remembered start passes (record { words = kept.ticket ∷ kept.turn ∷ []; homes = s.homes; views = z })) (sym (set_again s.views id v at))
+        (subst (λ (z : List ℕ). Rule remembered start passes (record { words = z; homes = s.homes; views = s.views })) kept.words kept),
     record { turn = λ waits. absurd (other waits); no_turn = λ _. refl },
   )
 
   pub looks_allowed : (slots id : ℕ) (v : View) (mine : ℕ) → v.stage ≡ Waiting mine
-      → Allows (Rule stands start passes) slots id (v, []) 1 (λ n. n) (Looked stands (v, []))
+      → Allows (Rule remembered start passes) slots id (v, []) 1 (λ n. n) (Looked remembered (v, []))
   looks_allowed slots id v mine waits s kept len at bound =
-      subst (Goal stands start passes s id (v, []) 1 (λ n. n) (Looked stands (v, []))) (sym kept.words)
+      subst (Goal remembered start passes s id (v, []) 1 (λ n. n) (Looked remembered (v, []))) (sym kept.words)
       (dite (ℕ_discrete mine kept.turn) (λ e. came s kept id v (waits ∙ ap Waiting e) at)
       (λ other. stayed s kept id v (λ e. let same : Waiting mine ≡ Waiting kept.turn = sym waits ∙ e in let n : mine ≡ kept.turn = cc in other n) at))
 
   -- ---- the turn is given up
 
-  left : (s : State S View) (kept : Rule stands start passes s) (id : ℕ) (v : View) (x : S) (entry : Event) → v.stage ≡ Serving kept.turn
-      → v.seen ≡ kept.history → stands x (v.seen ++ entry ∷ []) → maker entry ≡ v.number → length s.homes ≡ 1 → At s.views id v
-      → Goal stands start passes s id (v, (0, x) ∷ []) 1 (λ n. (n + 1) % 2 ^ 64) (λ found. Left entry (v, (0, x) ∷ [])) (kept.ticket ∷ kept.turn ∷ [])
+  left : (s : State S View) (kept : Rule remembered start passes s) (id : ℕ) (v : View) (x : S) (entry : Event) → v.stage ≡ Serving kept.turn
+      → v.seen ≡ kept.history → Stands (remembered x) (v.seen ++ entry ∷ []) → maker entry ≡ v.number → length s.homes ≡ 1 → At s.views id v
+      → Goal remembered start passes s id (v, (0, x) ∷ []) 1 (λ n. (n + 1) % 2 ^ 64) (λ found. Left entry (v, (0, x) ∷ [])) (kept.ticket ∷ kept.turn ∷ [])
   left s kept id v x entry serves whole stands_for by one at =
       let knows = kept.fits.each id v at in
       let w : View = entered entry v in
@@ -168,28 +172,28 @@ module _ {S : Type 0} (stands : S → List Event → Type 0) (start passes : ℕ
               (λ has. other (kept.fits.one_owner j id u v (maker entry) at_j at (inr has) (inl own)))
               (others j u other at_j)
               (kept.fits.each j u at_j))
-              (same_owner stands start passes s kept id v w at (λ number owns. owns))
+              (same_owner remembered start passes s kept id v w at (λ number owns. owns))
               (λ j u ticket other at_j has _. has)
-              (λ ticket low high. inr (held_by_others stands start passes s kept id v ticket at (λ has. let e = forth ticket has in omega arith) (omega arith) high));
+              (λ ticket low high. inr (held_by_others remembered start passes s kept id v ticket at (λ has. let e = forth ticket has in omega arith) (omega arith) high));
           made = λ number any. one_of (any_by (number ∷ []) kept.history) (any_by (number ∷ []) (entry ∷ [])) (IsMade (set s.views id w) number)
               (sym (any_by-append (number ∷ []) kept.history (entry ∷ [])) ∙ any)
               (λ before. made_set s.views id v w number at (λ has. has) (kept.made number before))
-              (λ now. (
-                id,
-                w,
-                set_here s.views id w (at_length s.views id v at),
-                subst (λ (z : ℕ). is_of v.numbers z ≡ true)
-                    (only_of number (maker entry) (one_of (is_of (number ∷ []) (maker entry)) false (is_of (number ∷ []) (maker entry) ≡ true) now (λ e. e) (λ e. cc))) own,
-              ));
+              (λ now. record {
+                place = id;
+                view = w;
+                at = set_here s.views id w (at_length s.views id v at);
+                has = subst (IsOf v.numbers)
+                    (only_of number (maker entry) (one_of (is_of (number ∷ []) (maker entry)) false (IsOf (number ∷ []) (maker entry)) now (λ e. e) (λ e. cc))) own;
+              });
           home = inl record {
             state = x;
             homes = one_home s.homes x one;
-            stands_for = subst (λ (z : List Event). stands x (z ++ entry ∷ [])) whole stands_for;
+            stands_for = subst (λ (z : List Event). Stands (remembered x) (z ++ entry ∷ [])) whole stands_for;
             nobody = λ j u ticket at_j his. ⊎_elim
                 (λ (t : (j ≡ id) × (w ≡ u)). let clash : Resting ≡ Serving ticket = ap (λ (z : View). z.stage) t.1 ∙ his in cc)
                 (λ (t : (j ≢ id) × At s.views j u).
                 let fits = kept.fits.each j u t.1 in
-                let same : ticket ≡ kept.turn = (subst (StageFits kept.ticket kept.turn kept.history u) his fits.stage).1 in
+                let same : ticket ≡ kept.turn = (subst (StageFits kept.ticket kept.turn kept.history u) his fits.stage).has_turn in
                 others j u t.0 t.1 (subst (λ (z : Stage). HasTicket z kept.turn) (sym his) same))
                 (at_set s.views id j w u at_j);
           };
@@ -197,10 +201,10 @@ module _ {S : Type 0} (stands : S → List Event → Type 0) (start passes : ℕ
         refl,
       )
 
-  pub leaves_allowed : (slots id : ℕ) (v : View) (mine : ℕ) (x : S) (entry : Event) → v.stage ≡ Serving mine → stands x (v.seen ++ entry ∷ [])
+  pub leaves_allowed : (slots id : ℕ) (v : View) (mine : ℕ) (x : S) (entry : Event) → v.stage ≡ Serving mine → Stands (remembered x) (v.seen ++ entry ∷ [])
       → maker entry ≡ v.number → slots ≡ 1
-      → Allows (Rule stands start passes) slots id (v, (0, x) ∷ []) 1 (λ n. (n + 1) % 2 ^ 64) (λ found. Left entry (v, (0, x) ∷ []))
+      → Allows (Rule remembered start passes) slots id (v, (0, x) ∷ []) 1 (λ n. (n + 1) % 2 ^ 64) (λ found. Left entry (v, (0, x) ∷ []))
   leaves_allowed slots id v mine x entry serves stands_for by one s kept len at bound =
       let fits = subst (StageFits kept.ticket kept.turn kept.history v) serves (kept.fits.each id v at).stage in
-      subst (Goal stands start passes s id (v, (0, x) ∷ []) 1 (λ n. (n + 1) % 2 ^ 64) (λ found. Left entry (v, (0, x) ∷ []))) (sym kept.words)
-      (left s kept id v x entry (serves ∙ ap Serving fits.1) fits.3 stands_for by (len ∙ one) at)
+      subst (Goal remembered start passes s id (v, (0, x) ∷ []) 1 (λ n. (n + 1) % 2 ^ 64) (λ found. Left entry (v, (0, x) ∷ []))) (sym kept.words)
+      (left s kept id v x entry (serves ∙ ap Serving fits.has_turn) fits.whole stands_for by (len ∙ one) at)

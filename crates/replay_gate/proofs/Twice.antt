@@ -9,7 +9,7 @@ use Rattle.munge_types.specs.declared.history.Event.{Event}
 use Rattle.munge_types.specs.declared.history.Event.TheVariants.{Admit}
 use Rattle.munge_types.specs.declared.history.Verdict.TheVariants.{Accepted}
 use Rattle.munge_types.specs.declared.pair.Pair.{Pair}
-use Rattle.replay_gate.specs.Entries.{GoesOn}
+use Rattle.replay_gate.specs.GoesOn.{GoesOn}
 use Rattle.replay_gate.proofs.Histories.{split_at}
 
 last_same : (xs ys : List Event) (a b : Event) → xs ++ a ∷ [] ≡ ys ++ b ∷ [] → a ≡ b

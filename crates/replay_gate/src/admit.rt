@@ -1,13 +1,11 @@
 //! Looking a pair up on a gate.
 
-ghost use Rattle.std.specs.Prelude.{◌≡◌, [], ◌∷◌, ◌++◌, IfOk, IfErr, OnErr, MatchResult};
+ghost use Rattle.std.specs.Prelude.{◌≡◌, IfOk, IfErr, OnOk, OnErr, MatchResult};
 ghost use Rattle.munge_types.specs.History.{verdict};
-ghost use Rattle.munge_types.specs.StandsFor.{Stands};
 ghost use Rattle.munge_types.specs.declared.history.Event.TheVariants.{Admit, Idle};
 ghost use Rattle.munge_types.specs.declared.history.Verdict.TheVariants.{Accepted};
-ghost use Rattle.replay_gate.specs.Calls.{Answers};
-ghost use Rattle.replay_gate.specs.Refused.{Refuses};
-ghost use Rattle.replay_gate.specs.Turns.{Rests, FindsWorn, StandsAt, HasAnswered, HasIdled};
+ghost use Rattle.replay_gate.specs.Answers.{Answers, Refuses};
+ghost use Rattle.replay_gate.specs.Seats.{Rests, FindsWorn, StandsForSeen, StandsWith, HasAnswered, HasIdled};
 
 use crate::gate::Gate;
 use crate::pass::Pass;
@@ -20,7 +18,8 @@ use std::mem;
 use std::sync::Wait;
 
 impl<R: Replay + Drop> Gate<R> {
-    /// Looks the pair up in the state, which the seat holds while it has the turn.
+    /// Looks the pair up at the moment, in seconds since 1970, in the state, which the seat holds while
+    /// it has the turn.
     fn look_up(
         &self,
         seat: &mut Seat<R, View>,
@@ -28,19 +27,22 @@ impl<R: Replay + Drop> Gate<R> {
         moment: u32,
     ) -> Result<Verdict, NoMemory>
         requires gate { seat.old.table_id ≡ self.now.table }
-        requires state { StandsAt (λ state. Stands (R.remembered state)) seat.old.me seat.old.me.0.seen }
+        requires state { StandsForSeen R.remembered seat.old.me }
         ensures gate { seat.new.table_id ≡ seat.old.table_id }
         ensures view { seat.new.me.0 ≡ seat.old.me.0 }
-        ensures said { IfOk result (λ said. (said ≡ verdict seat.old.me.0.seen pair.now moment)
-            × StandsAt (λ state. Stands (R.remembered state)) seat.new.me (seat.old.me.0.seen ++ Admit seat.old.me.0.number pair.now moment ∷ [])) }
-        ensures wanted { OnErr result ((verdict seat.old.me.0.seen pair.now moment ≡ Accepted)
-            × StandsAt (λ state. Stands (R.remembered state)) seat.new.me (seat.old.me.0.seen ++ Idle seat.old.me.0.number ∷ [])) }
+        ensures said { IfOk result (λ said. said ≡ verdict seat.old.me.0.seen pair.now moment) }
+        ensures wanted { OnErr result (verdict seat.old.me.0.seen pair.now moment ≡ Accepted) }
+        ensures admits { OnOk result
+            (StandsWith R.remembered seat.new.me (Admit seat.new.me.0.number pair.now moment)) }
+        ensures idles { OnErr result
+            (StandsWith R.remembered seat.new.me (Idle seat.new.me.0.number)) }
     {
         seat.slot_mut(&self.table.shared, 0).admit(pair, moment)
     }
 
-    /// Takes a turn, looks the pair up, and gives the turn up with the entry of a pass of this number.
-    /// Answers the ticket with what was said of the pair, or the ticket word of a worn gate.
+    /// Takes a turn, looks the pair up at the moment, in seconds since 1970, and gives the turn up with
+    /// the entry of a pass of this number. Answers the ticket with what was said of the pair, or the
+    /// ticket word of a worn gate.
     fn admit_at<W: Wait>(
         &self,
         rt: &W,
@@ -53,10 +55,10 @@ impl<R: Replay + Drop> Gate<R> {
         requires rests { Rests seat.old.me }
         requires number { seat.old.me.0.number ≡ number }
         ensures gate { seat.new.table_id ≡ seat.old.table_id }
-        ensures worn { IfErr result (λ ticket. FindsWorn seat.old.me ticket seat.new.me) }
+        ensures worn { IfErr result (FindsWorn seat.old.me seat.new.me) }
         ensures answered { IfOk result (λ answer. MatchResult answer.1
-            (λ said. HasAnswered seat.old.me answer.0 pair.now moment said seat.new.me)
-            (λ _. HasIdled seat.old.me answer.0 pair.now moment seat.new.me)) }
+            (HasAnswered seat.old.me seat.new.me answer.0 pair.now moment)
+            (λ _. HasIdled seat.old.me seat.new.me answer.0 pair.now moment)) }
     {
         let ticket = self.take_turn(rt, seat)?;
         match self.look_up(seat, pair, moment) {
@@ -76,10 +78,10 @@ impl<R: Replay + Drop> Gate<R> {
         }
     }
 
-    /// Looks the pair up at the moment, and enters it where it is accepted. It waits for the calls
-    /// that drew a ticket before. It makes one entry, with the number of the pass: the look-up, or
-    /// `Idle` where the pair would be accepted and there is no memory for it. Where the gate is worn,
-    /// it makes none.
+    /// Looks the pair up at the moment, in seconds since 1970, and enters it where it is accepted. It
+    /// waits for the calls that drew a ticket before. It makes one entry, with the number of the pass:
+    /// the look-up, or `Idle` where the pair would be accepted and there is no memory for it. Where the
+    /// gate is worn, it makes none, and answers the ticket word that it read.
     pub fn admit<W: Wait>(
         &self,
         rt: &W,
@@ -88,8 +90,8 @@ impl<R: Replay + Drop> Gate<R> {
         moment: u32,
     ) -> Result<Admitted, GateRefused>
         requires gate { pass.old.gate ≡ self.now }
-        ensures answered { IfOk result (λ admitted. Answers pass.old pass.new pair.now moment admitted.place admitted.verdict) }
-        ensures refused { IfErr result (λ refused. Refuses pass.old pass.new pair.now moment refused) }
+        ensures answered { IfOk result (Answers pass.old pass.new pair.now moment) }
+        ensures refused { IfErr result (Refuses pass.old pass.new pair.now moment) }
     {
         let mut seat = mem::replace(&mut pass.badge, Badge::blank()).into_seat();
         let answer = self.admit_at(rt, &mut seat, pass.number, pair, moment);

@@ -2,8 +2,8 @@
 
 ghost use Rattle.std.specs.Prelude.{◌≡◌, ◌≤◌, [], IfOk};
 ghost use Rattle.munge_types.specs.StandsFor.{Stands};
-ghost use Rattle.replay_gate.specs.Calls.{first_pass};
-ghost use Rattle.replay_gate.specs.Steps.{worn_at};
+ghost use Rattle.replay_gate.specs.PassState.{first_pass};
+ghost use Rattle.replay_gate.specs.Worn.{worn_at};
 
 use crate::pass::Pass;
 use crate::view::View;
@@ -21,7 +21,9 @@ pub(crate) const SERVING: usize = 1;
 /// At which number a gate begins, and how many passes it may have.
 #[derive(Clone, Copy, Drop)]
 pub struct Origin {
+    /// The first ticket.
     pub start: u64,
+    /// How many passes there may be at most, at least 1.
     pub passes: u32,
 }
 
@@ -29,11 +31,10 @@ pub struct Origin {
 pub struct OneHistory;
 
 impl<R: Replay> TableRule<R, View, Origin> for OneHistory {
-    ghost use Rattle.munge_types.specs.StandsFor.{Stands};
     ghost use Rattle.replay_gate.specs.Rule.{Kept};
-    ghost use Rattle.replay_gate.specs.Steps.{first_view};
+    ghost use Rattle.replay_gate.specs.Views.{first_view};
 
-    ghost holds = { λ origin table. Kept (λ state. Stands (R.remembered state)) origin.start origin.passes table };
+    ghost holds = { λ origin table. Kept R.remembered origin.start origin.passes table };
 
     ghost first = { λ origin. first_view origin.start origin.passes };
 }
@@ -47,14 +48,15 @@ pub struct Gate<R: Replay + Drop> {
 }
 
 impl<R: Replay + Drop> Model for Gate<R> {
-    ghost use Rattle.std.specs.Prelude.{◌≡◌};
-    ghost use Rattle.replay_gate.specs.Passes.{GateId};
+    ghost use Rattle.replay_gate.specs.IsGate.{gate_id, IsGate};
+    ghost use Rattle.replay_gate.specs.PassState.{GateId};
 
     ghost Value = { GateId };
 
-    ghost view = { λ gate. record { table = gate.table.shared.table_id; start = gate.origin.start; passes = gate.origin.passes } };
+    ghost view = { λ gate. gate_id gate.table.shared.table_id gate.origin };
 
-    ghost invariant = { λ gate. (gate.table.shared.table_id.words ≡ 2) × (gate.table.shared.table_id.slots ≡ 1) × (gate.table.shared.key ≡ gate.origin) };
+    ghost invariant = { λ gate.
+        IsGate gate.table.shared.table_id gate.table.shared.key gate.origin };
 }
 
 /// A gate, and its first pass, which stands for all of them.
@@ -65,23 +67,26 @@ pub struct Entry<R: Replay + Drop> {
 }
 
 impl<R: Replay + Drop> Gate<R> {
-    /// A gate over a state that stands for the empty history, of so many passes. Where there is no
-    /// memory for it, the state is dropped.
+    /// A gate over a state that stands for the empty history, of so many passes, at least 1. Its
+    /// tickets begin at 0. Where there is no memory for it, the state is dropped.
     pub fn new(alloc: Global, state: R, passes: u32) -> Result<Entry<R>, NoMemory>
         requires passes { 1 ≤ passes }
         requires empty { Stands (R.remembered state) [] }
-        ensures gate { IfOk result (λ entry. (entry.gate.start ≡ 0) × (entry.gate.passes ≡ passes)) }
+        ensures start { IfOk result (λ entry. entry.gate.start ≡ 0) }
+        ensures passes { IfOk result (λ entry. entry.gate.passes ≡ passes) }
         ensures pass { IfOk result (λ entry. entry.pass ≡ first_pass entry.gate) }
     {
         Gate::new_at(alloc, state, passes, 0)
     }
 
-    /// The same, with the tickets beginning at this number, which is at most 2^62.
+    /// The same, with the tickets beginning at this number, which is at most 2^62. With 2^62 the gate
+    /// is worn from the first.
     pub fn new_at(alloc: Global, state: R, passes: u32, ticket: u64) -> Result<Entry<R>, NoMemory>
         requires passes { 1 ≤ passes }
         requires ticket { ticket ≤ worn_at }
         requires empty { Stands (R.remembered state) [] }
-        ensures gate { IfOk result (λ entry. (entry.gate.start ≡ ticket) × (entry.gate.passes ≡ passes)) }
+        ensures start { IfOk result (λ entry. entry.gate.start ≡ ticket) }
+        ensures passes { IfOk result (λ entry. entry.gate.passes ≡ passes) }
         ensures pass { IfOk result (λ entry. entry.pass ≡ first_pass entry.gate) }
     {
         let origin = Origin {

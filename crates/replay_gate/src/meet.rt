@@ -1,9 +1,10 @@
 //! Cutting a pass in two, and taking one into another.
 
 ghost use Rattle.std.specs.Prelude.{◌≡◌, ◌<◌, ◌≤◌, [], IfOk, OnOk, OnErr};
-ghost use Rattle.replay_gate.specs.Calls.{Meets, kept_pass, given_pass};
-ghost use Rattle.replay_gate.specs.Steps.{left_part, given_part};
-ghost use Rattle.replay_gate.specs.Turns.{Rests, HasMet};
+ghost use Rattle.replay_gate.specs.Meets.{Meets};
+ghost use Rattle.replay_gate.specs.PassState.{kept_pass, given_pass};
+ghost use Rattle.replay_gate.specs.Seats.{Rests, HasMet};
+ghost use Rattle.replay_gate.specs.Views.{left_part, given_part};
 
 use crate::gate::{Gate, TICKETS};
 use crate::pass::Pass;
@@ -19,8 +20,11 @@ impl<R: Replay + Drop> Gate<R> {
     fn cut<C: Counted>(&self, seat: &mut Seat<R, View>, count: u32) -> Seat<R, View>
         requires gate { seat.old.table_id ≡ self.now.table }
         requires rests { Rests seat.old.me }
-        requires count { (count ≡ C.count) × (0 < C.count) × (C.count ≤ seat.old.me.0.spare) }
-        ensures gate { (seat.new.table_id ≡ seat.old.table_id) × (result.table_id ≡ seat.old.table_id) }
+        requires count { count ≡ C.count }
+        requires several { 0 < C.count }
+        requires spare { C.count ≤ seat.old.me.0.spare }
+        ensures gate { seat.new.table_id ≡ seat.old.table_id }
+        ensures given_gate { result.table_id ≡ seat.old.table_id }
         ensures left { seat.new.me ≡ (left_part C.count seat.old.me.0, []) }
         ensures given { result.me ≡ (given_part C.count seat.old.me.0, []) }
     {
@@ -29,9 +33,9 @@ impl<R: Replay + Drop> Gate<R> {
         self.table.shared.split_seat::<Give<C>>(seat)
     }
 
-    /// Gives the last `count` of the numbers that the pass can give away to a new pass, which has
-    /// seen what the pass has seen. The first of them is the new pass's own. Where it answers
-    /// `NoMemory`, the pass is as before.
+    /// Gives the last `count` of the numbers that the pass can give away, from 1 to all of them, to a
+    /// new pass, which has seen what the pass has seen. The first of them is the new pass's own. Where
+    /// it answers `NoMemory`, the pass is as before.
     pub fn split(&self, pass: &mut Pass, count: u32) -> Result<Pass, NoMemory>
         requires gate { pass.old.gate ≡ self.now }
         requires count { (1 ≤ count) × (count ≤ pass.old.spare) }
@@ -67,8 +71,8 @@ impl<R: Replay + Drop> Gate<R> {
         self.table.shared.load::<Compare>(seat, TICKETS);
     }
 
-    /// Takes the second pass into the first, which then has the numbers of both, and has seen what
-    /// either has seen.
+    /// Takes the second pass into the first, which then has the numbers of both, of which none is in
+    /// common, and has seen what either has seen. It takes no memory.
     pub fn meet(&self, first: Pass, second: Pass) -> Pass
         requires gate { (first.gate ≡ self.now) × (second.gate ≡ self.now) }
         ensures { Meets first second result }

@@ -21,14 +21,15 @@ pub struct Pass {
 }
 
 impl Model for Pass {
-    ghost use Rattle.replay_gate.specs.Passes.{PassState};
-    ghost use Rattle.replay_gate.specs.Turns.{the_view, pass_state, IsPass};
+    ghost use Rattle.replay_gate.specs.IsPass.{the_view, pass_state, IsPass};
+    ghost use Rattle.replay_gate.specs.PassState.{PassState};
 
     ghost Value = { PassState };
 
     ghost view = { λ pass. pass_state pass.badge.table_id (the_view pass.badge.views) };
 
-    ghost invariant = { λ pass. IsPass pass.badge.views pass.number pass.spare pass.share pass.length };
+    ghost invariant = { λ pass.
+        IsPass pass.badge.views pass.number pass.spare pass.share pass.length };
 }
 
 impl Pass {

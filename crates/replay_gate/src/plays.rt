@@ -2,10 +2,10 @@
 //! alone.
 
 ghost use Rattle.std.specs.Prelude.{ℕ};
-ghost use Rattle.munge_types.specs.StandsFor.{Stands};
 ghost use Rattle.munge_types.specs.declared.history.Event.{Event};
 ghost use Rattle.munge_types.specs.declared.history.Event.TheVariants.{Idle};
-ghost use Rattle.replay_gate.specs.Steps.{Asked, Drew, Looked, Left, Met, left_part, given_part, merged, gone};
+ghost use Rattle.replay_gate.specs.Steps.{Asked, Drew, Looked, Left, Met};
+ghost use Rattle.replay_gate.specs.Views.{left_part, given_part, merged, gone};
 
 use crate::view::View;
 use atomic_table::{Join, Play, Split};
@@ -30,7 +30,7 @@ impl<S> Play<S, View> for Draw {
 pub(crate) struct Look;
 
 impl<R: Replay> Play<R, View> for Look {
-    ghost then = { λ step before found after. Looked (λ state. Stands (R.remembered state)) before found after };
+    ghost then = { λ step before found after. Looked R.remembered before found after };
 }
 
 /// Which entry a call adds. Each call picks it.

@@ -1,11 +1,10 @@
 //! Purging the state of a gate.
 
-ghost use Rattle.std.specs.Prelude.{◌≡◌, [], ◌∷◌, ◌++◌, IfOk, IfErr};
-ghost use Rattle.munge_types.specs.StandsFor.{Stands};
+ghost use Rattle.std.specs.Prelude.{◌≡◌, IfOk, IfErr};
 ghost use Rattle.munge_types.specs.declared.history.Event.TheVariants.{Purge};
-ghost use Rattle.replay_gate.specs.Calls.{IsWorn};
-ghost use Rattle.replay_gate.specs.Purges.{Drops, Purges, HasPurged};
-ghost use Rattle.replay_gate.specs.Turns.{Rests, FindsWorn, StandsAt};
+ghost use Rattle.replay_gate.specs.Purges.{Drops, Purges};
+ghost use Rattle.replay_gate.specs.Seats.{Rests, FindsWorn, StandsForSeen, StandsWith, HasPurged};
+ghost use Rattle.replay_gate.specs.Worn.{IsWorn};
 
 use crate::gate::Gate;
 use crate::pass::Pass;
@@ -18,20 +17,22 @@ use std::mem;
 use std::sync::Wait;
 
 impl<R: Replay + Drop> Gate<R> {
-    /// Purges the state, which the seat holds while it has the turn.
+    /// Purges the state, which the seat holds while it has the turn, at the moment, in seconds since
+    /// 1970.
     fn purge_state(&self, seat: &mut Seat<R, View>, moment: u32, slice: u32) -> Purged
         requires gate { seat.old.table_id ≡ self.now.table }
-        requires state { StandsAt (λ state. Stands (R.remembered state)) seat.old.me seat.old.me.0.seen }
+        requires state { StandsForSeen R.remembered seat.old.me }
         ensures gate { seat.new.table_id ≡ seat.old.table_id }
         ensures view { seat.new.me.0 ≡ seat.old.me.0 }
-        ensures state { StandsAt (λ state. Stands (R.remembered state)) seat.new.me (seat.old.me.0.seen ++ Purge seat.old.me.0.number moment ∷ []) }
+        ensures state { StandsWith R.remembered seat.new.me (Purge seat.new.me.0.number moment) }
         ensures drops { Drops seat.old.me.0.seen seat.old.me.0.number moment slice result }
     {
         seat.slot_mut(&self.table.shared, 0).purge(moment, slice)
     }
 
-    /// Takes a turn, purges, and gives the turn up with the entry of a pass of this number. Answers
-    /// the ticket with what was dropped and left, or the ticket word of a worn gate.
+    /// Takes a turn, purges at the moment, in seconds since 1970, and gives the turn up with the entry
+    /// of a pass of this number. Answers the ticket with what was dropped and left, or the ticket word
+    /// of a worn gate.
     fn purge_at<W: Wait>(
         &self,
         rt: &W,
@@ -44,8 +45,9 @@ impl<R: Replay + Drop> Gate<R> {
         requires rests { Rests seat.old.me }
         requires number { seat.old.me.0.number ≡ number }
         ensures gate { seat.new.table_id ≡ seat.old.table_id }
-        ensures worn { IfErr result (λ ticket. FindsWorn seat.old.me ticket seat.new.me) }
-        ensures purged { IfOk result (λ did. HasPurged seat.old.me did.0 moment slice did.1 seat.new.me) }
+        ensures worn { IfErr result (FindsWorn seat.old.me seat.new.me) }
+        ensures purged { IfOk result (λ answer.
+            HasPurged seat.old.me seat.new.me answer.0 moment slice answer.1) }
     {
         let ticket = self.take_turn(rt, seat)?;
         let purged = self.purge_state(seat, moment, slice);
@@ -57,9 +59,11 @@ impl<R: Replay + Drop> Gate<R> {
         Ok((ticket, purged))
     }
 
-    /// Purges the state: raises its floor to the moment, and drops the pairs of the `slice` least
-    /// expiries below the new floor. It waits for the calls that drew a ticket before, and makes one
-    /// entry, with the number of the pass. Where the gate is worn, it makes none. It takes no memory.
+    /// Purges the state: raises its floor to the moment, in seconds since 1970, where it is lower, and
+    /// drops the pairs of the `slice` least expiries below the new floor, of all where there are no
+    /// more; `u32::MAX` bounds nothing. It waits for the calls that drew a ticket before, and makes one
+    /// entry, with the number of the pass. Where the gate is worn, it makes none, and answers the
+    /// ticket word that it read. It takes no memory.
     pub fn purge<W: Wait>(
         &self,
         rt: &W,
@@ -68,7 +72,7 @@ impl<R: Replay + Drop> Gate<R> {
         slice: u32,
     ) -> Result<Purged, Worn>
         requires gate { pass.old.gate ≡ self.now }
-        ensures purged { IfOk result (λ did. Purges pass.old pass.new moment slice did) }
+        ensures purged { IfOk result (Purges pass.old pass.new moment slice) }
         ensures worn { IfErr result (λ worn. IsWorn pass.old pass.new worn.0) }
     {
         let mut seat = mem::replace(&mut pass.badge, Badge::blank()).into_seat();

@@ -2,7 +2,7 @@
 
 ghost use Rattle.std.specs.Prelude.{◌≡◌, ◌≢◌, IfOk};
 ghost use Rattle.munge_types.specs.declared.history.Verdict.TheVariants.{Accepted};
-ghost use Rattle.replay_gate.specs.Calls.{Answers};
+ghost use Rattle.replay_gate.specs.Answers.{Answers};
 
 use crate::{Admitted, Entry, Gate, GateRefused, Pass, Worn};
 use munge_types::{MacBytes, Pair, Replay, Verdict};
@@ -28,7 +28,7 @@ fn admit_once<R: Replay + Drop, W: Wait>(
     moment: u32,
 ) -> Result<(Pass, Admitted), GateRefused>
     requires { pass.gate ≡ gate.now }
-    ensures { IfOk result (λ done. Answers pass done.0 pair.now moment done.1.place done.1.verdict) }
+    ensures { IfOk result (λ done. Answers pass done.0 pair.now moment done.1) }
 {
     let admitted = gate.admit(rt, &mut pass, pair, moment)?;
     Ok((pass, admitted))
@@ -52,11 +52,11 @@ fn admit_both<R: Replay + Drop, W: Threads + Wait + Sync>(
         rt,
         move || -> Result<(Pass, Admitted), GateRefused>
             requires { first.gate ≡ gate.now }
-            ensures { IfOk result (λ done. Answers first done.0 pair.entry.now moment done.1.place done.1.verdict) }
+            ensures { IfOk result (λ done. Answers first done.0 pair.entry.now moment done.1) }
         { admit_once(rt, gate, first, pair, moment) },
         move || -> Result<(Pass, Admitted), GateRefused>
             requires { second.gate ≡ gate.now }
-            ensures { IfOk result (λ done. Answers second done.0 pair.entry.now moment done.1.place done.1.verdict) }
+            ensures { IfOk result (λ done. Answers second done.0 pair.entry.now moment done.1) }
         { admit_once(rt, gate, second, pair, moment) },
     );
     let (first, one) = one?;

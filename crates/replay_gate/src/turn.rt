@@ -1,11 +1,12 @@
 //! The steps of a call: draw a ticket, wait for its turn, and give the turn up.
 
-ghost use Rattle.std.specs.Prelude.{◌≡◌, ℕ, [], ◌∷◌, ◌++◌, IfOk, IfErr};
-ghost use Rattle.munge_types.specs.StandsFor.{Stands};
-ghost use Rattle.replay_gate.specs.Entries.{maker};
-ghost use Rattle.replay_gate.specs.Steps.{Serves, entered};
-ghost use Rattle.replay_gate.specs.Turns.{Rests, Waits, FindsWorn, StandsAt, HasTurn};
-ghost use Rattle.replay_gate.specs.declared.view.Stage.TheVariants.{Waiting, Serving};
+ghost use Rattle.std.specs.Prelude.{◌≡◌, ℕ, [], IfOk, IfErr};
+ghost use Rattle.replay_gate.specs.Makers.{maker};
+ghost use Rattle.replay_gate.specs.Rule.{IsServing};
+ghost use Rattle.replay_gate.specs.Seats.{Rests, Waits, FindsWorn, HasTurn, StandsWith};
+ghost use Rattle.replay_gate.specs.Steps.{Serves};
+ghost use Rattle.replay_gate.specs.Views.{entered};
+ghost use Rattle.replay_gate.specs.declared.view.Stage.TheVariants.{Waiting};
 
 use crate::gate::{Gate, SERVING, TICKETS};
 use crate::plays::{Ask, Draw, Entered, Leave, Look};
@@ -38,8 +39,8 @@ impl<R: Replay + Drop> Gate<R> {
         requires gate { seat.old.table_id ≡ self.now.table }
         requires rests { Rests seat.old.me }
         ensures gate { seat.new.table_id ≡ seat.old.table_id }
-        ensures drawn { IfOk result (λ ticket. Waits seat.old.me ticket seat.new.me) }
-        ensures worn { IfErr result (λ ticket. FindsWorn seat.old.me ticket seat.new.me) }
+        ensures drawn { IfOk result (Waits seat.old.me seat.new.me) }
+        ensures worn { IfErr result (FindsWorn seat.old.me seat.new.me) }
     {
         let found = self.table.shared.load::<Ask>(seat, TICKETS);
         if found >= WORN_AT {
@@ -51,9 +52,10 @@ impl<R: Replay + Drop> Gate<R> {
     /// Waits until the serving word is the ticket.
     pub(crate) fn wait<W: Wait>(&self, rt: &W, seat: &mut Seat<R, View>, ticket: u64)
         requires gate { seat.old.table_id ≡ self.now.table }
-        requires waits { (seat.old.me.1 ≡ []) × (seat.old.me.0.stage ≡ Waiting ticket) }
+        requires holds_nothing { seat.old.me.1 ≡ [] }
+        requires waits { seat.old.me.0.stage ≡ Waiting ticket }
         ensures gate { seat.new.table_id ≡ seat.old.table_id }
-        ensures serves { Serves (λ state. Stands (R.remembered state)) ticket seat.old.me seat.new.me }
+        ensures serves { Serves R.remembered ticket seat.old.me seat.new.me }
     {
         let mut looks = 0;
         for _ in rt.forever() {
@@ -75,8 +77,8 @@ impl<R: Replay + Drop> Gate<R> {
         requires gate { seat.old.table_id ≡ self.now.table }
         requires rests { Rests seat.old.me }
         ensures gate { seat.new.table_id ≡ seat.old.table_id }
-        ensures turn { IfOk result (λ ticket. HasTurn (λ state. Stands (R.remembered state)) seat.old.me ticket seat.new.me) }
-        ensures worn { IfErr result (λ ticket. FindsWorn seat.old.me ticket seat.new.me) }
+        ensures turn { IfOk result (HasTurn R.remembered seat.old.me seat.new.me) }
+        ensures worn { IfErr result (FindsWorn seat.old.me seat.new.me) }
     {
         let ticket = self.draw(seat)?;
         self.wait(rt, seat, ticket);
@@ -86,9 +88,10 @@ impl<R: Replay + Drop> Gate<R> {
     /// Gives the turn up, which adds the entry.
     pub(crate) fn leave<E: Entered>(&self, seat: &mut Seat<R, View>, entry: Event)
         requires gate { seat.old.table_id ≡ self.now.table }
-        requires entry { (entry ≡ E.entry) × (maker E.entry ≡ seat.old.me.0.number) }
-        requires state { StandsAt (λ state. Stands (R.remembered state)) seat.old.me (seat.old.me.0.seen ++ E.entry ∷ []) }
-        requires turn { (ticket : ℕ) × (seat.old.me.0.stage ≡ Serving ticket) }
+        requires entry { entry ≡ E.entry }
+        requires own { maker E.entry ≡ seat.old.me.0.number }
+        requires state { StandsWith R.remembered seat.old.me E.entry }
+        requires turn { (ticket : ℕ) × IsServing seat.old.me.0 ticket }
         ensures gate { seat.new.table_id ≡ seat.old.table_id }
         ensures entered { seat.new.me ≡ (entered E.entry seat.old.me.0, []) }
     {

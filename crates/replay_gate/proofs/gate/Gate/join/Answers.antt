@@ -1,13 +1,13 @@
 use Rattle.std.proofs.Common.{ap, sym, ◌∙◌, arith}
-use Rattle.replay_gate.specs.Passes.{GateId}
-use Rattle.replay_gate.specs.Steps.{part_of}
+use Rattle.replay_gate.specs.PassState.{GateId}
+use Rattle.replay_gate.specs.Views.{part_of}
 use Rattle.replay_gate.proofs.Meeting.{joins_allowed}
 use Rattle.replay_gate.proofs.Seats.{compares_at, has_met}
 use Rattle.replay_gate.proofs.gate.Gate.join.Goals as goal
 
 pub join_seat-requires : goal.join_seat-requires
 join_seat-requires g c =
-    let words = c.self.invariant.0 in
+    let words = c.self.invariant.words in
     let table = sym (ap (λ (z : GateId). z.table) c.self.view_is) in (
       c.requires.gate.0 ∙ table,
       c.requires.gate.1 ∙ table,
@@ -18,7 +18,7 @@ join_seat-requires g c =
 
 pub load-requires : goal.load-requires
 load-requires g c =
-    let words = c.self.invariant.0 in
+    let words = c.self.invariant.words in
     let table = sym (ap (λ (z : GateId). z.table) c.self.view_is) in (
       c.join_seat.ensures.0 ∙ (c.requires.gate.0 ∙ table),
       omega arith,

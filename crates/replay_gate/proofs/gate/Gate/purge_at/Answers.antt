@@ -1,29 +1,27 @@
-use Rattle.std.proofs.Common.{ℕ, [], ◌∷◌, ◌++◌, ap, sym, ◌∙◌, refl, subst}
-use Rattle.munge_types.specs.StandsFor.{Stands}
+use Rattle.std.proofs.Common.{ℕ, ap, sym, ◌∙◌, subst}
 use Rattle.munge_types.specs.declared.history.Event.TheVariants.{Purge}
 use Rattle.replay_gate.specs.declared.view.View.{View}
 use Rattle.replay_gate.specs.Purges.{Drops}
-use Rattle.replay_gate.specs.Turns.{StandsAt, HasEntered}
+use Rattle.replay_gate.specs.Seats.{StandsWith, HasEntered}
 use Rattle.replay_gate.proofs.Seats.{has_entered}
 use Rattle.replay_gate.proofs.gate.Gate.purge_at.Goals as goal
 
-pub leave-requires-clause-entry : goal.leave-requires-clause-entry
-leave-requires-clause-entry g c =
+pub leave-requires-clause-own : goal.leave-requires-clause-own
+leave-requires-clause-own g c =
     let view = c.purge_state-purged.ensures.view ∙ c.in_ok-ticket.ensures.turn.view_is in
-    λ κs lives. (refl, sym (ap (λ (z : View). z.number) view ∙ c.requires.number))
+    λ κs lives. sym (ap (λ (z : View). z.number) view ∙ c.requires.number)
 
 pub leave-requires-clause-state : goal.leave-requires-clause-state
 leave-requires-clause-state g c =
-    let number = ap (λ (z : View). z.number) c.in_ok-ticket.ensures.turn.view_is ∙ c.requires.number in
-    let stands = λ (state : g.row.R.Denot). Stands (g.R.Replay.remembered state) in
-    λ κs lives. subst (λ (z : View). StandsAt stands c.purge_state-purged.new.seat.me (z.seen ++ Purge c.args.number c.args.moment ∷ [])) (sym c.purge_state-purged.ensures.view)
-    (subst (λ (n : ℕ). StandsAt stands c.purge_state-purged.new.seat.me (c.take_turn.new.seat.me.0.seen ++ Purge n c.args.moment ∷ [])) number c.purge_state-purged.ensures.state)
+    let view = c.purge_state-purged.ensures.view ∙ c.in_ok-ticket.ensures.turn.view_is in
+    let number = ap (λ (z : View). z.number) view ∙ c.requires.number in
+    λ κs lives. subst (λ (n : ℕ). StandsWith g.R.Replay.remembered c.purge_state-purged.new.seat.me (Purge n c.args.moment)) number c.purge_state-purged.ensures.state
 
 pub returns-clause-purged : goal.returns-clause-purged
 returns-clause-purged g c =
     let turn = c.in_ok-ticket.ensures.turn in record {
       history = turn.history;
-      entered = subst (λ (n : ℕ). HasEntered c.args.seat.now.me c.in_ok-ticket.ticket turn.history (Purge n c.args.moment) c.leave.new.seat.me) (sym c.requires.number)
+      entered = subst (λ (n : ℕ). HasEntered c.args.seat.now.me c.leave.new.seat.me c.in_ok-ticket.ticket turn.history (Purge n c.args.moment)) (sym c.requires.number)
           (has_entered _ c.args.seat.now.me c.take_turn.new.seat.me c.purge_state-purged.new.seat.me c.leave.new.seat.me c.in_ok-ticket.ticket (Purge c.args.number c.args.moment) turn c.purge_state-purged.ensures.view c.leave.ensures.entered);
       drops = subst (λ (z : View). Drops z.seen z.number c.args.moment c.args.slice c.purge_state-purged.result) turn.view_is c.purge_state-purged.ensures.drops;
     }
