@@ -1,0 +1,77 @@
+//! Frames from pieces of a stream.
+
+ghost use Rattle.std.specs.Prelude.{◌≡◌, ℕ, ◌+◌, ◌<◌, ◌≤◌, ◌⊎◌, List, [], ◌++◌, length, Ok, IfOk, OnErr};
+ghost use Rattle.wire_msg.specs.Bytes.{IsBytes};
+ghost use Rattle.wire_msg.specs.Feeding.{Answers, Leaves};
+ghost use Rattle.wire_msg.specs.Frame.{BeginsFrame, IsFrame, IsNoFrame, IsUnfinished};
+ghost use Rattle.wire_msg.specs.FrameHead.{head_size};
+ghost use Rattle.wire_msg.specs.declared.fed.Fed.TheVariants.{Bad};
+
+use crate::{Bytes, Fed, Message, Side};
+use munge_types::NoMemory;
+use std::alloc::Global;
+use std::marker::Model;
+
+/// Takes the bytes of a stream in pieces of any size, and gives the messages of one side. Contracts
+/// see the side, the place where the frame begins whose bytes come now, and those that came.
+#[derive(Debug, Drop)]
+pub struct Feeder {
+    side: Side,
+    begins: u64,
+    unfinished: Vec<u8>,
+}
+
+impl Model for Feeder {
+    ghost use Rattle.wire_msg.specs.Feeding.{Feeding};
+
+    ghost Value = { Feeding };
+
+    ghost view = { λ feeder. record { side = feeder.side; begins = feeder.begins; unfinished = feeder.unfinished.items } };
+}
+
+impl Feeder {
+    /// A feeder of the messages of this side, at the begin of their stream. It takes no memory.
+    pub fn new(alloc: Global, side: Side) -> Feeder
+        ensures side { result.side ≡ side }
+        ensures begins { result.begins ≡ 0 }
+        ensures unfinished { result.unfinished ≡ [] }
+    {
+        Feeder {
+            side,
+            begins: 0,
+            unfinished: Vec::new(alloc),
+        }
+    }
+
+    /// Takes the next bytes of the stream, up to the end of a frame. After want of memory nothing
+    /// was taken.
+    pub fn feed(&mut self, piece: &[u8]) -> Result<Fed, NoMemory>
+        ensures answers { IfOk result (Answers self.old piece.now) }
+        ensures leaves { IfOk result (λ fed. Leaves self.old piece.now fed self.new) }
+        ensures side { self.new.side ≡ self.old.side }
+        ensures unchanged { OnErr result (self.new ≡ self.old) }
+        ensures wants_memory { OnErr result (BeginsFrame self.old.side (self.old.unfinished ++ piece.now)
+            ⊎ IsUnfinished self.old.side (self.old.unfinished ++ piece.now)) }
+
+        // So it is after Bad.
+        ensures bad { IsNoFrame self.old.side (self.old.unfinished ++ piece.now)
+            → result ≡ Ok (Bad self.old.begins) }
+    {
+        Ok(Fed::Bad(self.begins))
+    }
+
+    /// How many more bytes a frame needs at least. Until its head is whole these are the bytes that
+    /// the head lacks, and then those that the frame lacks. It takes no memory.
+    pub fn wanted(&self) -> usize
+        ensures head { IsUnfinished self.now.side self.now.unfinished
+            → length self.now.unfinished < head_size → result + length self.now.unfinished ≡ head_size }
+        ensures least { (piece : List ℕ) → IsFrame self.now.side (self.now.unfinished ++ piece)
+            → result ≤ length piece }
+        ensures enough { IsUnfinished self.now.side self.now.unfinished
+            → head_size ≤ length self.now.unfinished → (piece : List ℕ) → IsBytes piece
+            → length piece ≡ result → IsFrame self.now.side (self.now.unfinished ++ piece) }
+        ensures some { IsUnfinished self.now.side self.now.unfinished → 1 ≤ result }
+    {
+        0
+    }
+}
