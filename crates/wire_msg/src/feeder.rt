@@ -7,7 +7,11 @@ ghost use Rattle.wire_msg.specs.Frame.{BeginsFrame, IsFrame, IsNoFrame, IsUnfini
 ghost use Rattle.wire_msg.specs.FrameHead.{head_size};
 ghost use Rattle.wire_msg.specs.declared.fed.Fed.TheVariants.{Bad};
 
-use crate::{Bytes, Fed, Message, Side};
+use crate::begun::Begun;
+use crate::head::{Seen, head_in};
+use crate::heads::HEAD_SIZE;
+use crate::short_bytes::ShortBytes;
+use crate::{Fed, Side};
 use munge_types::NoMemory;
 use std::alloc::Global;
 use std::marker::Model;
@@ -16,17 +20,29 @@ use std::marker::Model;
 /// see the side, the place where the frame begins whose bytes come now, and those that came.
 #[derive(Debug, Drop)]
 pub struct Feeder {
+    alloc: Global,
     side: Side,
+    /// Where the frame begins whose bytes come now.
     begins: u64,
-    unfinished: Vec<u8>,
+    /// The bytes of its head, until that is whole.
+    front: ShortBytes,
+    /// The frame, from then on.
+    begun: Option<Begun>,
 }
 
 impl Model for Feeder {
+    ghost use Rattle.wire_msg.specs.Begun.{IsWaiting, came};
     ghost use Rattle.wire_msg.specs.Feeding.{Feeding};
 
     ghost Value = { Feeding };
 
-    ghost view = { λ feeder. record { side = feeder.side; begins = feeder.begins; unfinished = feeder.unfinished.items } };
+    ghost view = { λ feeder. record {
+      side = feeder.side;
+      begins = feeder.begins;
+      unfinished = came feeder.front feeder.begun;
+    } };
+
+    ghost invariant = { λ feeder. IsWaiting feeder.side feeder.front feeder.begun };
 }
 
 impl Feeder {
@@ -37,9 +53,11 @@ impl Feeder {
         ensures unfinished { result.unfinished ≡ [] }
     {
         Feeder {
+            alloc,
             side,
             begins: 0,
-            unfinished: Vec::new(alloc),
+            front: ShortBytes::new(),
+            begun: None,
         }
     }
 
@@ -57,7 +75,39 @@ impl Feeder {
         ensures bad { IsNoFrame self.old.side (self.old.unfinished ++ piece.now)
             → result ≡ Ok (Bad self.old.begins) }
     {
-        Ok(Fed::Bad(self.begins))
+        let (begun, front) = match self.begun.take() {
+            Some(begun) => (begun, 0),
+            None => {
+                let count = piece.len().min(HEAD_SIZE - self.front.len());
+                let mut front = ShortBytes::new();
+                front.put(self.front.bytes());
+                front.put(&piece[..count]);
+                match head_in(self.side, front.bytes()) {
+                    Seen::Whole(head) => (Begun::new(self.alloc, head)?, count),
+                    Seen::Part => {
+                        self.front = front;
+                        return Ok(Fed::More);
+                    }
+                    Seen::Broken => {
+                        self.front = front;
+                        return Ok(Fed::Bad(self.begins));
+                    }
+                }
+            }
+        };
+        let mut begun = begun;
+        let count = begun.missing().min(piece.len() - front);
+        begun.take(&piece[front..front + count]);
+        self.front = ShortBytes::new();
+        if begun.missing() > 0 {
+            self.begun = Some(begun);
+            return Ok(Fed::More);
+        }
+        self.begins = self.begins.saturating_add(begun.frame_size());
+        Ok(Fed::Message {
+            message: begun.finish(),
+            used: front + count,
+        })
     }
 
     /// How many more bytes a frame needs at least. Until its head is whole these are the bytes that
@@ -72,6 +122,9 @@ impl Feeder {
             → length piece ≡ result → IsFrame self.now.side (self.now.unfinished ++ piece) }
         ensures some { IsUnfinished self.now.side self.now.unfinished → 1 ≤ result }
     {
-        0
+        match &self.begun {
+            Some(begun) => begun.missing(),
+            None => HEAD_SIZE - self.front.len(),
+        }
     }
 }

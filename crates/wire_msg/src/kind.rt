@@ -1,7 +1,7 @@
 //! Who sends what.
 
-ghost use Rattle.std.specs.Prelude.{◌≡◌};
-ghost use Rattle.wire_msg.specs.FrameHead.{kind_number};
+ghost use Rattle.std.specs.Prelude.{◌≡◌, ◌≢◌, IfSome, IfNone};
+ghost use Rattle.wire_msg.specs.FrameHead.{kind_number, side_of_kind};
 
 /// The most bytes of a body.
 pub const BODY_LIMIT: u32 = 2_097_152;
@@ -44,6 +44,28 @@ impl Kind {
             Kind::DecodeReply => 4,
             Kind::Stop => 5,
             Kind::Bye => 6,
+        }
+    }
+
+    /// The kind of this number on this side, and None where it is that of no kind there.
+    pub(crate) fn of(number: u8, side: Side) -> Option<Kind>
+        ensures number { IfSome result (λ kind. number ≡ kind_number kind) }
+        ensures side { IfSome result (λ kind. side_of_kind kind ≡ side) }
+        ensures none { IfNone result ((kind : Kind) → side_of_kind kind ≡ side → number ≢ kind_number kind) }
+    {
+        match side {
+            Side::Requests => match number {
+                1 => Some(Kind::EncodeRequest),
+                3 => Some(Kind::DecodeRequest),
+                5 => Some(Kind::Stop),
+                _ => None,
+            },
+            Side::Replies => match number {
+                2 => Some(Kind::EncodeReply),
+                4 => Some(Kind::DecodeReply),
+                6 => Some(Kind::Bye),
+                _ => None,
+            },
         }
     }
 }

@@ -2,12 +2,16 @@
 //! messages, and from messages to frames.
 #![tactic(auto)]
 
+mod begun;
 mod bytes;
 mod fed;
 mod feeder;
+mod head;
 mod heads;
 mod kind;
 mod message;
+mod reading;
+mod short_bytes;
 mod writing;
 
 pub use bytes::Bytes;
@@ -17,3 +21,6 @@ pub use heads::{CONTENT_SIZE, HEAD_SIZE, REPLY_SIZE, content_head, message_head,
 pub use kind::{BODY_LIMIT, Kind, Side};
 pub use message::{Content, ContentFields, DecodeSaid, EncodeAsk, EncodeSaid, Message};
 pub use writing::{FrameRefused, frame};
+
+#[cfg(test)]
+mod tests;

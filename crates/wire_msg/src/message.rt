@@ -1,6 +1,9 @@
 //! What clients and the daemon say to each other.
 
-use crate::Bytes;
+ghost use Rattle.std.specs.Prelude.{◌≡◌};
+ghost use Rattle.wire_msg.specs.Spelling.{fields_of, kind_of};
+
+use crate::{Bytes, Kind};
 
 /// A message of a client or of the daemon.
 #[derive(Debug, Drop, PartialEq, Eq)]
@@ -104,4 +107,39 @@ pub struct ContentFields {
     pub for_uid: u32,
     /// The GID whose members alone may open it, or 4294967295 for any.
     pub for_gid: u32,
+}
+
+impl Message {
+    /// Its kind.
+    pub fn kind(&self) -> Kind
+        ensures { result ≡ kind_of self.now }
+    {
+        match self {
+            Message::EncodeRequest(_) => Kind::EncodeRequest,
+            Message::EncodeReply(_) => Kind::EncodeReply,
+            Message::DecodeRequest(_) => Kind::DecodeRequest,
+            Message::DecodeReply(_) => Kind::DecodeReply,
+            Message::Stop => Kind::Stop,
+            Message::Bye(_) => Kind::Bye,
+        }
+    }
+}
+
+impl Content {
+    /// Its fields before the payload.
+    pub fn fields(&self) -> ContentFields
+        ensures { result ≡ fields_of self.now }
+    {
+        ContentFields {
+            cipher: self.cipher,
+            kind: self.kind,
+            addr: self.addr,
+            time: self.time,
+            ttl: self.ttl,
+            uid: self.uid,
+            gid: self.gid,
+            for_uid: self.for_uid,
+            for_gid: self.for_gid,
+        }
+    }
 }

@@ -1,11 +1,17 @@
 //! From messages to their frames.
 
-ghost use Rattle.std.specs.Prelude.{◌≡◌, ℕ, List, Some, IfOk, IfErr, OnOk};
-ghost use Rattle.wire_msg.specs.Fits.{IsMessage};
+ghost use Rattle.std.specs.Prelude.{◌≡◌, ◌≤◌, ◌++◌, Some, IfOk, IfErr, OnOk, length};
+ghost use Rattle.wire_msg.specs.Fits.{FitsFields, IsMessage};
 ghost use Rattle.wire_msg.specs.Refusal.{Refuses, refused_text};
-ghost use Rattle.wire_msg.specs.Spelling.{frame_of, side_of};
+ghost use Rattle.wire_msg.specs.Spelling.{body_of, frame_of, side_of};
 
 use crate::Message;
+use crate::heads::{
+    ASKED_SIZE, HEAD_SIZE, REPLY_SIZE, SHOWING_SIZE, ask_head, content_head, message_head,
+    reply_head,
+};
+use crate::kind::BODY_LIMIT;
+use munge_types::{NoMemory, Room};
 use std::alloc::Global;
 use std::error::Error;
 use std::fmt;
@@ -32,11 +38,70 @@ impl fmt::Display for FrameRefused {
 
 impl Error for FrameRefused {}
 
+impl From<NoMemory> for FrameRefused {
+    fn from(_refused: NoMemory) -> FrameRefused {
+        FrameRefused::NoMemory
+    }
+}
+
 /// The frame of a message.
 pub fn frame(alloc: Global, message: &Message) -> Result<Vec<u8>, FrameRefused>
     ensures frame { IfOk result (λ bytes. bytes.items ≡ frame_of message.now) }
     ensures fits { OnOk result (IsMessage (side_of message.now) message.now) }
     ensures refused { IfErr result (Refuses message.now) }
 {
-    Ok(Vec::new(alloc))
+    let size = body_size(message);
+    if size > u64::from(BODY_LIMIT) {
+        return Err(FrameRefused::TooLong(size));
+    }
+    let mut frame = Room::new(alloc, HEAD_SIZE + size as usize)?;
+    frame.put(&message_head(message.kind(), size as u32));
+    put_body(&mut frame, message);
+    Ok(frame.finish())
+}
+
+/// How many bytes the body of a message has.
+fn body_size(message: &Message) -> u64
+    ensures size { result ≡ length (body_of message.now) }
+    ensures fits { FitsFields message.now }
+{
+    let size = match message {
+        Message::EncodeRequest(ask) => ASKED_SIZE + ask.payload.bytes().len(),
+        Message::EncodeReply(said) => 1 + said.text.bytes().len(),
+        Message::DecodeRequest(text) => text.bytes().len(),
+        Message::DecodeReply(said) => match &said.content {
+            Some(content) => SHOWING_SIZE + content.payload.bytes().len(),
+            None => REPLY_SIZE,
+        },
+        Message::Stop => 0,
+        Message::Bye(_) => 1,
+    };
+    size as u64
+}
+
+/// Appends the body of a message, which has to fit. It takes no memory.
+fn put_body(out: &mut Room, message: &Message)
+    requires { length (body_of message.now) ≤ out.old.spare }
+    ensures { out.new.bytes ≡ out.old.bytes ++ body_of message.now }
+{
+    match message {
+        Message::EncodeRequest(ask) => {
+            out.put(&ask_head(ask));
+            out.put(ask.payload.bytes());
+        }
+        Message::EncodeReply(said) => {
+            out.put(&[said.status]);
+            out.put(said.text.bytes());
+        }
+        Message::DecodeRequest(text) => out.put(text.bytes()),
+        Message::DecodeReply(said) => {
+            out.put(&reply_head(said.status, said.rule, said.place));
+            if let Some(content) = &said.content {
+                out.put(&content_head(&content.fields()));
+                out.put(content.payload.bytes());
+            }
+        }
+        Message::Stop => {}
+        Message::Bye(status) => out.put(&[*status]),
+    }
 }
