@@ -36,6 +36,7 @@ pub record IsKept (size fixed : ℕ) (fields tail : List ℕ) (spare missing : �
   pub tail_behind : length fields < fixed → tail ≡ []
   pub room : (fixed + length tail) + spare ≡ size
   pub counted : (length fields + length tail) + missing ≡ size
+  pub field_bytes : IsBytes fields
   pub tail_bytes : IsBytes tail
 
 -- the bytes of a frame so far: those of its head, or the head and those of its body

@@ -322,7 +322,7 @@ fn largest_body_and_one_above(rt: HostRuntime) -> Result<(), Fail> {
     let largest = Message::DecodeRequest(of_text(rt.alloc(), &text)?);
     let bytes = frame(rt.alloc(), &largest)?;
     assert_eq!(rt; bytes.len(), 2_097_159);
-    assert_eq!(rt; &bytes[..7], b"\x4d\x01\x03\x00\x20\x00\x00");
+    assert_eq!(rt; &bytes[..7], b"\x4d\x01\x03\x00\x20\x00\x00".as_slice());
     let mut feeder = Feeder::new(rt.alloc(), Side::Requests);
     assert!(rt; feeder.feed(&bytes[..1_000_000])? == Fed::More);
     let Fed::Message { message, used } = feeder.feed(&bytes[1_000_000..])? else {
