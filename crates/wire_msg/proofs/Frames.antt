@@ -1,6 +1,6 @@
 -- Frames as heads and bodies.
-use Rattle.std.proofs.Common.{◌≡◌, ◌≢◌, ℕ, ◌+◌, ◌-◌, ◌≤◌, ◌<◌, ◌^◌, List, [], ◌∷◌, ◌++◌, length, Bool, nat_eq, cond, refl, sym, ap, ◌∙◌, arith}
-use Rattle.std.proofs.lemmas.List.{append_assoc, append-nil, length-append}
+use Rattle.std.proofs.Common.{◌≡◌, ◌≢◌, ℕ, ◌+◌, ◌-◌, ◌≤◌, ◌<◌, ◌^◌, List, [], ◌∷◌, ◌++◌, length, Bool, nat_eq, cond, refl, sym, ap, ◌∙◌, arith, ◌⊎◌, inl, inr}
+use Rattle.std.proofs.lemmas.List.{append_assoc, append-nil, length-append, nil_from_length}
 use Rattle.munge_types.specs.BigEndian.{be32}
 use Rattle.wire_msg.proofs.ByteLists.{append_bytes, zeros, length-zeros, zeros_bytes}
 use Rattle.wire_msg.proofs.Parts.{apart, number_apart, SameParts}
@@ -9,7 +9,7 @@ use Rattle.wire_msg.specs.Bytes.{IsBytes}
 use Rattle.wire_msg.specs.Fits.{IsMessage}
 use Rattle.wire_msg.specs.Frame.{BeginsFrame, IsFrame, IsFramePrefix, IsNoFrame, IsUnfinished}
 use Rattle.wire_msg.specs.FrameHead.{AllowsSize, message_head, kind_number, side_of_kind}
-use Rattle.wire_msg.specs.Head.{BeginsNoHead, IsHead}
+use Rattle.wire_msg.specs.Head.{BeginsNoHead, IsHead, IsHeadPart}
 use Rattle.wire_msg.specs.Spelling.{body_of, frame_of, kind_of, side_of}
 use Rattle.wire_msg.specs.declared.kind.Kind.{Kind}
 use Rattle.wire_msg.specs.declared.kind.Kind.TheVariants as kind
@@ -42,11 +42,11 @@ frame_laid side kind size body is_head whole bytes =
     record {
       message = spelled.message;
       is_message =
-        record {
-          sent_by = ap side_of_kind spelled.kind_is ∙ is_head.sent_by;
-          fits = spelled.fits;
-          within = rw spelled.body_is (allowed_within kind (length body) allowed);
-        };
+          record {
+            sent_by = ap side_of_kind spelled.kind_is ∙ is_head.sent_by;
+            fits = spelled.fits;
+            within = rw spelled.body_is (allowed_within kind (length body) allowed);
+          };
       spelled = rw (spelled.kind_is, spelled.body_is, whole) refl;
     }
 
@@ -117,3 +117,68 @@ frames_apart side f g x y first second same =
     let first_laid = a.laid in
     let second_laid = b.laid in
     record { front = a.laid ∙ (rw (kinds, bodies) refl ∙ sym b.laid); behind = parts.behind }
+
+-- a frame has the bytes of a head at least
+pub frame_size : (side : Side) (bytes : List ℕ) → IsFrame side bytes → 7 ≤ length bytes
+frame_size side bytes frame =
+    let laid = laid_frame side bytes frame in
+    let size = ap length laid.laid in
+    omega (arith, size)
+
+no_begun : (side : Side) (bytes more frame rest : List ℕ) → BeginsNoHead side bytes → Laid side frame → bytes ++ more ≡ frame ++ rest → ⊥
+no_begun side bytes more frame rest none laid same =
+    let begun : bytes ++ more ≡ message_head laid.kind (length laid.body) ++ (laid.body ++ rest) =
+    same ∙ ap (λ (l : List ℕ). l ++ rest) laid.laid ∙ append_assoc (message_head laid.kind (length laid.body)) laid.body rest in
+    none laid.kind (length laid.body) more (laid.body ++ rest) laid.is_head begun
+
+-- what begins no head begins no frame, whatever comes after it
+pub no_frame : (side : Side) (bytes more : List ℕ) → BeginsNoHead side bytes → IsNoFrame side (bytes ++ more)
+no_frame side bytes more none =
+    record {
+      begins_none = λ begun.
+          no_begun side bytes more begun.frame begun.rest none (laid_frame side begun.frame begun.is_frame) begun.begins;
+      goes_on_to_none = λ prefix.
+          let whole = (bytes ++ more) ++ prefix.rest in
+          no_begun side bytes (more ++ prefix.rest) whole [] none (laid_frame side whole prefix.completed)
+          (sym (append_assoc bytes more prefix.rest) ∙ sym (append-nil whole));
+    }
+
+-- it is no frame's front either
+pub not_unfinished : (side : Side) (bytes : List ℕ) → BeginsNoHead side bytes → IsUnfinished side bytes → ⊥
+not_unfinished side bytes none unfinished =
+    let frame = laid_frame side (bytes ++ unfinished.rest) unfinished.completed in
+    none frame.kind (length frame.body) unfinished.rest frame.body frame.is_head frame.laid
+
+-- fewer bytes than a head, of which they are the first, are an unfinished frame
+pub unfinished_part : (side : Side) (bytes : List ℕ) → length bytes < 7 → IsHeadPart side bytes → IsUnfinished side bytes
+unfinished_part side bytes fewer found =
+    let whole = length-zeros found.size in
+    let frame = frame_laid side found.kind found.size (zeros found.size) found.is_head whole (zeros_bytes found.size) in
+    let size = ap length found.completed in
+    record {
+      rest = found.rest ++ zeros found.size;
+      wants_some = λ none.
+          let lengths = ap length none in
+          omega (arith, size, lengths, length-append bytes found.rest, length-append found.rest (zeros found.size));
+      completed = rw (← append_assoc bytes found.rest (zeros found.size), found.completed) frame;
+    }
+
+-- a frame with something behind it, or nothing, is no unfinished one
+pub begun_not_unfinished : (side : Side) (bytes : List ℕ) → BeginsFrame side bytes → IsUnfinished side bytes → ⊥
+begun_not_unfinished side bytes begun unfinished =
+    let whole = bytes ++ unfinished.rest in
+    let same : begun.frame ++ (begun.rest ++ unfinished.rest) ≡ whole ++ [] =
+    sym (append_assoc begun.frame begun.rest unfinished.rest)
+    ∙ (ap (λ (l : List ℕ). l ++ unfinished.rest) (sym begun.begins) ∙ sym (append-nil whole)) in
+    let parts = frames_apart side begun.frame whole (begun.rest ++ unfinished.rest) [] begun.is_frame unfinished.completed same in
+    let lengths = ap length parts.behind in
+    unfinished.wants_some (nil_from_length unfinished.rest (omega (arith, lengths, length-append begun.rest unfinished.rest)))
+
+-- what goes on to a frame
+pub unfinished_prefix : (side : Side) (bytes : List ℕ) → IsUnfinished side bytes → IsFramePrefix side bytes
+unfinished_prefix side bytes unfinished = record { rest = unfinished.rest; completed = unfinished.completed }
+
+-- what begins with a frame or goes on to one is not without one
+pub some_frame : (side : Side) (bytes : List ℕ) → BeginsFrame side bytes ⊎ IsUnfinished side bytes → IsNoFrame side bytes → ⊥
+some_frame side bytes (inl begun) none = none.begins_none begun
+some_frame side bytes (inr unfinished) none = none.goes_on_to_none (unfinished_prefix side bytes unfinished)

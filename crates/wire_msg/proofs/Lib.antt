@@ -1,7 +1,10 @@
 pub mod ByteLists
+pub mod Answered
 pub mod Fields
 pub mod Frames
 pub mod SeenHead
+pub mod Going
 pub mod Parts
 pub mod Sizes
 pub mod Spelled
+pub mod Waiting

@@ -44,20 +44,22 @@ sees_version side bytes same = rw same (omega arith, some_kind side)
 pub sees_size : (side : Side) (kind : Kind) (bytes size : List ℕ) (seen : Seen) → side_of_kind kind ≡ side
     → bytes ≡ 0x4d ∷ 1 ∷ kind_number kind ∷ size → SeesSize kind size seen → Sees side bytes seen
 sees_size side kind bytes size (Whole head) sent_by same sees =
-    let kind_is = sees.0 in
-    (record { sent_by = ap side_of_kind kind_is ∙ sent_by; allowed = rw kind_is sees.1 },
-    rw (kind_is, same, sees.2) refl)
+    let kind_is = sees.0 in (
+      record { sent_by = ap side_of_kind kind_is ∙ sent_by; allowed = rw kind_is sees.1 },
+      rw (kind_is, same, sees.2) refl,
+    )
 sees_size side kind bytes size Part sent_by same sees =
     let found = sees.1 in
-    let fewer = sees.0 in
-    (rw same (omega arith),
-    record {
-      kind = kind;
-      size = found.size;
-      rest = found.rest;
-      is_head = record { sent_by = sent_by; allowed = found.allowed };
-      completed = rw same (ap (λ (l : List ℕ). 0x4d ∷ 1 ∷ kind_number kind ∷ l) found.completed);
-    })
+    let fewer = sees.0 in (
+      rw same (omega arith),
+      record {
+        kind = kind;
+        size = found.size;
+        rest = found.rest;
+        is_head = record { sent_by = sent_by; allowed = found.allowed };
+        completed = rw same (ap (λ (l : List ℕ). 0x4d ∷ 1 ∷ kind_number kind ∷ l) found.completed);
+      },
+    )
 sees_size side kind bytes size Broken sent_by same sees =
     λ other n more rest is_head equal.
     let heads : 0x4d ∷ 1 ∷ kind_number kind ∷ (size ++ more) ≡ message_head other n ++ rest = rw same at equal in

@@ -72,14 +72,14 @@ read_ask body size bytes =
       message = EncodeRequest (ask_in fields (drop 14 body));
       kind_is = refl;
       fits =
-        record {
-          cipher = fields_bytes 0;
-          kind = fields_bytes 1;
-          ttl = number_fits fields 2 fields_bytes;
-          for_uid = number_fits fields 6 fields_bytes;
-          for_gid = number_fits fields 10 fields_bytes;
-          payload = drop_bytes 14 body bytes;
-        };
+          record {
+            cipher = fields_bytes 0;
+            kind = fields_bytes 1;
+            ttl = number_fits fields 2 fields_bytes;
+            for_uid = number_fits fields 6 fields_bytes;
+            for_gid = number_fits fields 10 fields_bytes;
+            payload = drop_bytes 14 body bytes;
+          };
       body_is = ap (λ (l : List ℕ). l ++ drop 14 body) (laid_ask fields fields_size fields_bytes) ∙ take-append-drop 14 body;
     }
 
@@ -158,12 +158,12 @@ read_showing body size bytes =
       message = DecodeReply (decode_in body (Some (content_in (take 30 content) (drop 30 content))));
       kind_is = refl;
       fits =
-        record {
-          status = bytes 0;
-          rule = bytes 1;
-          place = number8_fits body 2 bytes;
-          content = content_fits (take 30 content) (drop 30 content) fields_size fields_bytes (drop_bytes 30 content content_bytes);
-        };
+          record {
+            status = bytes 0;
+            rule = bytes 1;
+            place = number8_fits body 2 bytes;
+            content = content_fits (take 30 content) (drop 30 content) fields_size fields_bytes (drop_bytes 30 content content_bytes);
+          };
       body_is = rw laid (laid_reply body (omega arith) bytes);
     }
 

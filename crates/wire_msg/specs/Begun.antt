@@ -44,7 +44,8 @@ abbrev pub came : (front : List ℕ) → (begun : Option Partial) → List ℕ
 came front None = front
 came front (Some begun) = message_head begun.kind begun.size ++ begun.body
 
--- They are fewer than a head, or begin no frame; or there is more of the body to come.
+-- They are fewer than a head, or begin no frame; or there is more of the body to come, and of the
+-- head no bytes are kept.
 abbrev pub IsWaiting : Side → (front : List ℕ) → (begun : Option Partial) → Type 0
 IsWaiting side front None = (length front ≤ head_size) × (length front ≡ head_size → BeginsNoHead side front)
-IsWaiting side front (Some begun) = IsHead side begun.kind begun.size × (length begun.body < begun.size)
+IsWaiting side front (Some begun) = (front ≡ []) × IsHead side begun.kind begun.size × (length begun.body < begun.size)

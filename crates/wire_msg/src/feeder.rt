@@ -1,10 +1,12 @@
 //! Frames from pieces of a stream.
 
-ghost use Rattle.std.specs.Prelude.{◌≡◌, ℕ, ◌+◌, ◌<◌, ◌≤◌, ◌⊎◌, List, [], ◌++◌, length, Ok, IfOk, OnErr};
+ghost use Rattle.std.specs.Prelude.{◌≡◌, ℕ, ◌+◌, ◌<◌, ◌≤◌, ◌⊎◌, ◌-◌, List, [], ◌++◌, length, take, Ok, Some, IfOk, OnErr};
 ghost use Rattle.wire_msg.specs.Bytes.{IsBytes};
 ghost use Rattle.wire_msg.specs.Feeding.{Answers, Leaves};
 ghost use Rattle.wire_msg.specs.Frame.{BeginsFrame, IsFrame, IsNoFrame, IsUnfinished};
 ghost use Rattle.wire_msg.specs.FrameHead.{head_size};
+ghost use Rattle.wire_msg.specs.Head.{IsHead};
+ghost use Rattle.wire_msg.specs.Begun.{came};
 ghost use Rattle.wire_msg.specs.declared.fed.Fed.TheVariants.{Bad};
 
 use crate::begun::Begun;
@@ -75,39 +77,25 @@ impl Feeder {
         ensures bad { IsNoFrame self.old.side (self.old.unfinished ++ piece.now)
             → result ≡ Ok (Bad self.old.begins) }
     {
-        let (begun, front) = match self.begun.take() {
-            Some(begun) => (begun, 0),
-            None => {
-                let count = piece.len().min(HEAD_SIZE - self.front.len());
-                let mut front = ShortBytes::new();
-                front.put(self.front.bytes());
-                front.put(&piece[..count]);
-                match head_in(self.side, front.bytes()) {
-                    Seen::Whole(head) => (Begun::new(self.alloc, head)?, count),
-                    Seen::Part => {
-                        self.front = front;
-                        return Ok(Fed::More);
-                    }
-                    Seen::Broken => {
-                        self.front = front;
-                        return Ok(Fed::Bad(self.begins));
-                    }
-                }
-            }
-        };
-        let mut begun = begun;
-        let count = begun.missing().min(piece.len() - front);
-        begun.take(&piece[front..front + count]);
-        self.front = ShortBytes::new();
-        if begun.missing() > 0 {
-            self.begun = Some(begun);
-            return Ok(Fed::More);
+        if let Some(begun) = self.begun.take() {
+            return Ok(self.go_on(begun, piece, 0));
         }
-        self.begins = self.begins.saturating_add(begun.frame_size());
-        Ok(Fed::Message {
-            message: begun.finish(),
-            used: front + count,
-        })
+        let front = front_with(&self.front, piece);
+        match head_in(self.side, front.bytes()) {
+            Seen::Whole(head) => {
+                let begun = Begun::new(self.alloc, head)?;
+                let taken = front.len() - self.front.len();
+                Ok(self.go_on(begun, piece, taken))
+            }
+            Seen::Part => {
+                self.front = front;
+                Ok(Fed::More)
+            }
+            Seen::Broken => {
+                self.front = front;
+                Ok(Fed::Bad(self.begins))
+            }
+        }
     }
 
     /// How many more bytes a frame needs at least. Until its head is whole these are the bytes that
@@ -127,4 +115,42 @@ impl Feeder {
             None => HEAD_SIZE - self.front.len(),
         }
     }
+
+    /// Goes on with a frame whose head is whole, after so many bytes of the piece.
+    fn go_on(&mut self, mut begun: Begun, piece: &[u8], taken: usize) -> Fed
+        requires head { IsHead self.old.side begun.kind begun.size }
+        requires taken { taken ≤ length piece.now }
+        ensures answers { (unfinished : List ℕ) → came [] (Some begun) ≡ unfinished ++ take taken piece.now
+            → Answers (record self.old { unfinished = unfinished }) piece.now result }
+        ensures leaves { (unfinished : List ℕ) → came [] (Some begun) ≡ unfinished ++ take taken piece.now
+            → Leaves (record self.old { unfinished = unfinished }) piece.now result self.new }
+        ensures side { self.new.side ≡ self.old.side }
+    {
+        let rest = &piece[taken..];
+        let count = begun.missing().min(rest.len());
+        begun.take(&rest[..count]);
+        self.front = ShortBytes::new();
+        if begun.missing() > 0 {
+            self.begun = Some(begun);
+            return Fed::More;
+        }
+        self.begun = None;
+        self.begins = self.begins.saturating_add(begun.frame_size());
+        Fed::Message {
+            message: begun.finish(),
+            used: taken + count,
+        }
+    }
+}
+
+/// The first bytes of a frame, and then those of the piece, up to the end of a head.
+fn front_with(front: &ShortBytes, piece: &[u8]) -> ShortBytes
+    requires { length front.now ≤ head_size }
+    ensures { result ≡ front.now ++ take (head_size - length front.now) piece.now }
+{
+    let count = piece.len().min(HEAD_SIZE - front.len());
+    let mut all = ShortBytes::new();
+    all.put(front.bytes());
+    all.put(&piece[..count]);
+    all
 }

@@ -18,22 +18,25 @@ returns-in-Some c = λ size more rest allowed same.
 pub returns-in-Some-2 : goal.returns-in-Some-2
 returns-in-Some-2 c =
     let least = rw c.size_with-least.ensures at c.in-Some.ensures.not_below in
-    let most = rw c.size_with-most.ensures at c.if-size-most.false in
-    (refl, c.in-Some.ensures.allowed,
-    exactly c.args.bytes.now c.in-Some.size (λ i. omega (arith, c.type_inv.bytes i)) c.if-bytes-eq4.true least most)
+    let most = rw c.size_with-most.ensures at c.if-size-most.false in (
+      refl,
+      c.in-Some.ensures.allowed,
+      exactly c.args.bytes.now c.in-Some.size (λ i. omega (arith, c.type_inv.bytes i)) c.if-bytes-eq4.true least most,
+    )
 
 pub returns-in-Some-3 : goal.returns-in-Some-3
 returns-in-Some-3 c =
     let least = rw c.size_with-least.ensures at c.in-Some.ensures.not_below in
     let most = rw c.size_with-most.ensures at c.if-size-most.false in
-    let short = c.requires in
-    (elim (cases_lt (length c.args.bytes.now) 4) [ inl fewer ↦ fewer | inr four ↦ absurd (c.if-bytes-eq4.false (omega arith)) ],
-    record {
-      size = c.in-Some.size;
-      rest = drop (length c.args.bytes.now) (be32 c.in-Some.size);
-      allowed = c.in-Some.ensures.allowed;
-      completed = begins_so c.args.bytes.now c.in-Some.size (λ i. omega (arith, c.type_inv.bytes i)) c.requires least most;
-    })
+    let short = c.requires in (
+      elim (cases_lt (length c.args.bytes.now) 4) [ inl fewer ↦ fewer | inr four ↦ absurd (c.if-bytes-eq4.false (omega arith)) ],
+      record {
+        size = c.in-Some.size;
+        rest = drop (length c.args.bytes.now) (be32 c.in-Some.size);
+        allowed = c.in-Some.ensures.allowed;
+        completed = begins_so c.args.bytes.now c.in-Some.size (λ i. omega (arith, c.type_inv.bytes i)) c.requires least most;
+      },
+    )
 
 pub returns-in-None : goal.returns-in-None
 returns-in-None c = λ size more rest allowed same.
