@@ -1,5 +1,6 @@
 pub mod ByteLists
 pub mod Answered
+pub mod ContentHead
 pub mod Fields
 pub mod Frames
 pub mod SeenHead

@@ -1,7 +1,8 @@
 //! The parts of frames that have a fixed size, for who writes a frame into a buffer of his own.
 
-ghost use Rattle.std.specs.Prelude.{◌≡◌};
-ghost use Rattle.wire_msg.specs.FrameHead.{message_head};
+ghost use Rattle.std.specs.Prelude.{◌≡◌, ◌+◌, ◌≤◌, ◌++◌, length, take};
+ghost use Rattle.munge_types.specs.BigEndian.{be32};
+ghost use Rattle.wire_msg.specs.FrameHead.{content_size, message_head};
 ghost use Rattle.wire_msg.specs.Spelling.{ask_head, content_head, reply_head};
 
 use crate::{ContentFields, EncodeAsk, Kind};
@@ -64,14 +65,30 @@ pub fn content_head(fields: &ContentFields) -> [u8; CONTENT_SIZE]
     ensures { result ≡ content_head fields.now }
 {
     let mut head = [0; CONTENT_SIZE];
-    head[0] = fields.cipher;
-    head[1] = fields.kind;
-    head[2..6].copy_from_slice(&fields.addr);
-    BigEndian::write_u32(&mut head[6..10], fields.time);
-    BigEndian::write_u32(&mut head[10..14], fields.ttl);
-    BigEndian::write_u32(&mut head[14..18], fields.uid);
-    BigEndian::write_u32(&mut head[18..22], fields.gid);
-    BigEndian::write_u32(&mut head[22..26], fields.for_uid);
-    BigEndian::write_u32(&mut head[26..30], fields.for_gid);
+    put(&mut head, 0, &[fields.cipher, fields.kind]);
+    put(&mut head, 2, &fields.addr);
+    put(&mut head, 6, &four_bytes(fields.time));
+    put(&mut head, 10, &four_bytes(fields.ttl));
+    put(&mut head, 14, &four_bytes(fields.uid));
+    put(&mut head, 18, &four_bytes(fields.gid));
+    put(&mut head, 22, &four_bytes(fields.for_uid));
+    put(&mut head, 26, &four_bytes(fields.for_gid));
     head
+}
+
+/// Writes the bytes at this place of a content.
+fn put(head: &mut [u8; CONTENT_SIZE], at: usize, bytes: &[u8])
+    requires { at + length bytes.now ≤ content_size }
+    ensures { take (at + length bytes.now) head.new ≡ take at head.old ++ bytes.now }
+{
+    head[at..at + bytes.len()].copy_from_slice(bytes);
+}
+
+/// A number in four bytes, the highest first.
+fn four_bytes(number: u32) -> [u8; 4]
+    ensures { result ≡ be32 number }
+{
+    let mut bytes = [0; 4];
+    BigEndian::write_u32(&mut bytes, number);
+    bytes
 }
