@@ -73,7 +73,7 @@ front_whole side kind size front piece bytes is_head same =
             rest = drop size body;
             is_frame = frame_laid side kind size (take size body) is_head (length-take-le size body enough) (take_bytes size body body_bytes);
             begins = all ∙ (ap (λ (l : List ℕ). message_head kind size ++ l) (sym (take-append-drop size body))
-              ∙ sym (append_assoc (message_head kind size) (take size body) (drop size body)));
+                ∙ sym (append_assoc (message_head kind size) (take size body) (drop size body)));
           })
     ]
 

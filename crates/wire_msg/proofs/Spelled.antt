@@ -116,16 +116,19 @@ content_fits : (fields payload : List ℕ) → length fields ≡ 30 → IsBytes 
 unfolding content_in
 content_fits fields payload size bytes payload_bytes =
     record {
-      cipher = bytes 0;
-      kind = bytes 1;
-      addr_size = part_size fields 2 4 (omega (arith, size));
-      addr = part_bytes fields 2 4 bytes;
-      time = number_fits fields 6 bytes;
-      ttl = number_fits fields 10 bytes;
-      uid = number_fits fields 14 bytes;
-      gid = number_fits fields 18 bytes;
-      for_uid = number_fits fields 22 bytes;
-      for_gid = number_fits fields 26 bytes;
+      fields =
+          record {
+            cipher = bytes 0;
+            kind = bytes 1;
+            addr_size = part_size fields 2 4 (omega (arith, size));
+            addr = part_bytes fields 2 4 bytes;
+            time = number_fits fields 6 bytes;
+            ttl = number_fits fields 10 bytes;
+            uid = number_fits fields 14 bytes;
+            gid = number_fits fields 18 bytes;
+            for_uid = number_fits fields 22 bytes;
+            for_gid = number_fits fields 26 bytes;
+          };
       payload = payload_bytes;
     }
 
@@ -196,7 +199,7 @@ allowed_within kind.Bye size allowed = omega arith
 
 content_size : (content : Content) → FitsContent content → length (content_bytes (Some content)) ≡ 30 + length content.payload
 content_size content fits =
-    let addr = fits.addr_size in
+    let addr = fits.fields.addr_size in
     simp length-append (omega (arith, addr))
 
 reply_allowed : (content : Option Content) (size : ℕ) → Rattle.wire_msg.specs.Fits.FitsIfAny content → size ≡ 10 + length (content_bytes content)

@@ -4,9 +4,10 @@ use Rattle.std.specs.declared.option.Option.{Option}
 use Rattle.std.specs.declared.option.Option.TheVariants.{None, Some}
 use Rattle.wire_msg.specs.Bytes.{IsBytes}
 use Rattle.wire_msg.specs.FrameHead.{body_limit}
-use Rattle.wire_msg.specs.Spelling.{body_of, side_of}
+use Rattle.wire_msg.specs.Spelling.{body_of, fields_of, side_of}
 use Rattle.wire_msg.specs.declared.kind.Side.{Side}
 use Rattle.wire_msg.specs.declared.message.Content.{Content}
+use Rattle.wire_msg.specs.declared.message.ContentFields.{ContentFields}
 use Rattle.wire_msg.specs.declared.message.DecodeSaid.{DecodeSaid}
 use Rattle.wire_msg.specs.declared.message.EncodeAsk.{EncodeAsk}
 use Rattle.wire_msg.specs.declared.message.EncodeSaid.{EncodeSaid}
@@ -27,18 +28,22 @@ pub record FitsEncodeSaid (said : EncodeSaid) : Type 0 where
   pub status : said.status < 256
   pub text : IsBytes said.text
 
+-- the fields of a content before the payload fit their bytes
+pub record FitsContentFields (fields : ContentFields) : Type 0 where
+  pub cipher : fields.cipher < 256
+  pub kind : fields.kind < 256
+  pub addr_size : length fields.addr ≡ 4
+  pub addr : IsBytes fields.addr
+  pub time : fields.time < 2 ^ 32
+  pub ttl : fields.ttl < 2 ^ 32
+  pub uid : fields.uid < 2 ^ 32
+  pub gid : fields.gid < 2 ^ 32
+  pub for_uid : fields.for_uid < 2 ^ 32
+  pub for_gid : fields.for_gid < 2 ^ 32
+
 -- the fields of a content fit their bytes
 pub record FitsContent (content : Content) : Type 0 where
-  pub cipher : content.cipher < 256
-  pub kind : content.kind < 256
-  pub addr_size : length content.addr ≡ 4
-  pub addr : IsBytes content.addr
-  pub time : content.time < 2 ^ 32
-  pub ttl : content.ttl < 2 ^ 32
-  pub uid : content.uid < 2 ^ 32
-  pub gid : content.gid < 2 ^ 32
-  pub for_uid : content.for_uid < 2 ^ 32
-  pub for_gid : content.for_gid < 2 ^ 32
+  pub fields : FitsContentFields (fields_of content)
   pub payload : IsBytes content.payload
 
 -- those of a content, if there is one

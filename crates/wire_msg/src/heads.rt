@@ -2,10 +2,12 @@
 
 ghost use Rattle.std.specs.Prelude.{◌≡◌, ◌+◌, ◌≤◌, ◌++◌, length, take};
 ghost use Rattle.munge_types.specs.BigEndian.{be32};
+ghost use Rattle.wire_msg.specs.Bytes.{IsBytes};
+ghost use Rattle.wire_msg.specs.Fits.{FitsContentFields};
 ghost use Rattle.wire_msg.specs.FrameHead.{content_size, message_head};
 ghost use Rattle.wire_msg.specs.Spelling.{ask_head, content_head, reply_head};
 
-use crate::{ContentFields, EncodeAsk, Kind};
+use crate::{ContentFields, Kind};
 use byteorder::{BigEndian, ByteOrder};
 
 /// The bytes of a head.
@@ -39,15 +41,21 @@ pub fn message_head(kind: Kind, size: u32) -> [u8; HEAD_SIZE]
 }
 
 /// The bytes of an encode request's body before the payload.
-pub(crate) fn ask_head(ask: &EncodeAsk) -> [u8; ASKED_SIZE]
-    ensures { result ≡ ask_head ask.now.cipher ask.now.kind ask.now.ttl ask.now.for_uid ask.now.for_gid }
+pub(crate) fn ask_head(
+    cipher: u8,
+    kind: u8,
+    ttl: u32,
+    for_uid: u32,
+    for_gid: u32,
+) -> [u8; ASKED_SIZE]
+    ensures { result ≡ ask_head cipher kind ttl for_uid for_gid }
 {
     let mut head = [0; ASKED_SIZE];
-    head[0] = ask.cipher;
-    head[1] = ask.kind;
-    BigEndian::write_u32(&mut head[2..6], ask.ttl);
-    BigEndian::write_u32(&mut head[6..10], ask.for_uid);
-    BigEndian::write_u32(&mut head[10..14], ask.for_gid);
+    head[0] = cipher;
+    head[1] = kind;
+    BigEndian::write_u32(&mut head[2..6], ttl);
+    BigEndian::write_u32(&mut head[6..10], for_uid);
+    BigEndian::write_u32(&mut head[10..14], for_gid);
     head
 }
 
@@ -62,7 +70,8 @@ pub fn reply_head(status: u8, rule: u8, place: u64) -> [u8; REPLY_SIZE]
 
 /// The bytes of a content before the payload. It takes no memory.
 pub fn content_head(fields: &ContentFields) -> [u8; CONTENT_SIZE]
-    ensures { result ≡ content_head fields.now }
+    ensures head { result ≡ content_head fields.now }
+    ensures fits { FitsContentFields fields.now }
 {
     let mut head = [0; CONTENT_SIZE];
     put(&mut head, 0, &[fields.cipher, fields.kind]);
@@ -79,7 +88,9 @@ pub fn content_head(fields: &ContentFields) -> [u8; CONTENT_SIZE]
 /// Writes the bytes at this place of a content.
 fn put(head: &mut [u8; CONTENT_SIZE], at: usize, bytes: &[u8])
     requires { at + length bytes.now ≤ content_size }
-    ensures { take (at + length bytes.now) head.new ≡ take at head.old ++ bytes.now }
+    ensures front { take (at + length bytes.now) head.new ≡ take at head.old ++ bytes.now }
+    // Its callers cannot see this of a field.
+    ensures bytes { IsBytes bytes.now }
 {
     head[at..at + bytes.len()].copy_from_slice(bytes);
 }

@@ -1,17 +1,18 @@
 //! From messages to their frames.
 
-ghost use Rattle.std.specs.Prelude.{◌≡◌, ◌≤◌, ◌++◌, Some, IfOk, IfErr, OnOk, length};
+ghost use Rattle.std.specs.Prelude.{◌≡◌, ◌+◌, ◌≤◌, [], ◌∷◌, ◌++◌, Some, IfOk, IfErr, OnOk, length};
 ghost use Rattle.wire_msg.specs.Fits.{FitsFields, IsMessage};
+ghost use Rattle.wire_msg.specs.FrameHead.{reply_size};
 ghost use Rattle.wire_msg.specs.Refusal.{Refuses, refused_text};
-ghost use Rattle.wire_msg.specs.Spelling.{body_of, frame_of, side_of};
+ghost use Rattle.wire_msg.specs.Spelling.{body_of, content_bytes, frame_of, side_of};
 
-use crate::Message;
 use crate::heads::{
     ASKED_SIZE, HEAD_SIZE, REPLY_SIZE, SHOWING_SIZE, ask_head, content_head, message_head,
     reply_head,
 };
 use crate::kind::BODY_LIMIT;
-use munge_types::{NoMemory, Room};
+use crate::{Content, Message};
+use munge_types::Room;
 use std::alloc::Global;
 use std::error::Error;
 use std::fmt;
@@ -38,12 +39,6 @@ impl fmt::Display for FrameRefused {
 
 impl Error for FrameRefused {}
 
-impl From<NoMemory> for FrameRefused {
-    fn from(_refused: NoMemory) -> FrameRefused {
-        FrameRefused::NoMemory
-    }
-}
-
 /// The frame of a message.
 pub fn frame(alloc: Global, message: &Message) -> Result<Vec<u8>, FrameRefused>
     ensures frame { IfOk result (λ bytes. bytes.items ≡ frame_of message.now) }
@@ -54,7 +49,9 @@ pub fn frame(alloc: Global, message: &Message) -> Result<Vec<u8>, FrameRefused>
     if size > u64::from(BODY_LIMIT) {
         return Err(FrameRefused::TooLong(size));
     }
-    let mut frame = Room::new(alloc, HEAD_SIZE + size as usize)?;
+    let Ok(mut frame) = Room::new(alloc, HEAD_SIZE + size as usize) else {
+        return Err(FrameRefused::NoMemory);
+    };
     frame.put(&message_head(message.kind(), size as u32));
     put_body(&mut frame, message);
     Ok(frame.finish())
@@ -62,15 +59,14 @@ pub fn frame(alloc: Global, message: &Message) -> Result<Vec<u8>, FrameRefused>
 
 /// How many bytes the body of a message has.
 fn body_size(message: &Message) -> u64
-    ensures size { result ≡ length (body_of message.now) }
-    ensures fits { FitsFields message.now }
+    ensures { result ≡ length (body_of message.now) }
 {
     let size = match message {
         Message::EncodeRequest(ask) => ASKED_SIZE + ask.payload.bytes().len(),
         Message::EncodeReply(said) => 1 + said.text.bytes().len(),
         Message::DecodeRequest(text) => text.bytes().len(),
         Message::DecodeReply(said) => match &said.content {
-            Some(content) => SHOWING_SIZE + content.payload.bytes().len(),
+            Some(content) => showing_size(content),
             None => REPLY_SIZE,
         },
         Message::Stop => 0,
@@ -79,18 +75,26 @@ fn body_size(message: &Message) -> u64
     size as u64
 }
 
+/// How many bytes the body of a decode reply with this content has.
+fn showing_size(content: &Content) -> usize
+    ensures { result ≡ reply_size + length (content_bytes (Some content.now)) }
+{
+    SHOWING_SIZE + content.payload.bytes().len()
+}
+
 /// Appends the body of a message, which has to fit. It takes no memory.
 fn put_body(out: &mut Room, message: &Message)
     requires { length (body_of message.now) ≤ out.old.spare }
-    ensures { out.new.bytes ≡ out.old.bytes ++ body_of message.now }
+    ensures appended { out.new.bytes ≡ out.old.bytes ++ body_of message.now }
+    ensures fits { FitsFields message.now }
 {
     match message {
         Message::EncodeRequest(ask) => {
-            out.put(&ask_head(ask));
+            out.put(&ask_head(ask.cipher, ask.kind, ask.ttl, ask.for_uid, ask.for_gid));
             out.put(ask.payload.bytes());
         }
         Message::EncodeReply(said) => {
-            out.put(&[said.status]);
+            put_byte(out, said.status);
             out.put(said.text.bytes());
         }
         Message::DecodeRequest(text) => out.put(text.bytes()),
@@ -102,6 +106,15 @@ fn put_body(out: &mut Room, message: &Message)
             }
         }
         Message::Stop => {}
-        Message::Bye(status) => out.put(&[*status]),
+        Message::Bye(status) => put_byte(out, *status),
     }
+}
+
+/// Appends one byte.
+fn put_byte(out: &mut Room, byte: u8)
+    requires { 1 ≤ out.old.spare }
+    ensures appended { out.new.bytes ≡ out.old.bytes ++ byte ∷ [] }
+    ensures lowered { out.new.spare + 1 ≡ out.old.spare }
+{
+    out.put(&[byte]);
 }

@@ -2,12 +2,27 @@ use Rattle.std.proofs.Common.{arith, ◌≡◌, length}
 use Rattle.wire_msg.proofs.ContentHead.{content_whole}
 use Rattle.wire_msg.proofs.heads.content_head.Goals as goal
 
-pub returns : goal.returns
-returns c =
+pub returns-clause-head : goal.returns-clause-head
+returns-clause-head c =
     let addr : length c.args.fields.now.addr ≡ 4 = omega arith in
     content_whole c.args.fields.now
     c.put.new.head c.put-2.new.head c.put-3.new.head c.put-4.new.head c.put-5.new.head c.put-6.new.head c.put-7.new.head c.put-8.new.head
-    c.put-8.array_long c.put.ensures (rw addr at c.put-2.ensures)
-    (rw c.four_bytes.ensures at c.put-3.ensures) (rw c.four_bytes-2.ensures at c.put-4.ensures)
-    (rw c.four_bytes-3.ensures at c.put-5.ensures) (rw c.four_bytes-4.ensures at c.put-6.ensures)
-    (rw c.four_bytes-5.ensures at c.put-7.ensures) (rw c.four_bytes-6.ensures at c.put-8.ensures)
+    c.put-8.array_long c.put.ensures.front (rw addr at c.put-2.ensures.front)
+    (rw c.four_bytes.ensures at c.put-3.ensures.front) (rw c.four_bytes-2.ensures at c.put-4.ensures.front)
+    (rw c.four_bytes-3.ensures at c.put-5.ensures.front) (rw c.four_bytes-4.ensures at c.put-6.ensures.front)
+    (rw c.four_bytes-5.ensures at c.put-7.ensures.front) (rw c.four_bytes-6.ensures at c.put-8.ensures.front)
+
+pub returns-clause-fits : goal.returns-clause-fits
+returns-clause-fits c =
+    record {
+      cipher = c.put.ensures.bytes 0;
+      kind = c.put.ensures.bytes 1;
+      addr_size = omega arith;
+      addr = c.put-2.ensures.bytes;
+      time = omega arith;
+      ttl = omega arith;
+      uid = omega arith;
+      gid = omega arith;
+      for_uid = omega arith;
+      for_gid = omega arith;
+    }

@@ -25,7 +25,7 @@ returns-in_err-begun-in-Whole-clause-wants_memory c =
     let unfinished = came_none c.self.inside.front c.self.inside.begun none in
     let bytes = λ (i : ℕ). c.type_inv.piece i in
     let whole : BeginsFrame c.args.self.now.side (c.args.self.now.unfinished ++ c.args.piece.now)
-        ⊎ IsUnfinished c.args.self.now.side (c.args.self.now.unfinished ++ c.args.piece.now) =
+    ⊎ IsUnfinished c.args.self.now.side (c.args.self.now.unfinished ++ c.args.piece.now) =
     rw (← c.self.view_is, unfinished)
     (front_whole c.self.inside.side c.in-Whole.head.kind c.in-Whole.head.size c.self.inside.front c.args.piece.now
     (λ i. omega (arith, bytes i)) c.in-Whole.ensures.0 (sym c.in-Whole.ensures.1 ∙ (c.bytes.ensures ∙ c.front_with-front.ensures))) in
