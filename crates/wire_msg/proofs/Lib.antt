@@ -1,7 +1,9 @@
 pub mod ByteLists
 pub mod Answered
 pub mod ContentHead
+pub mod Decided
 pub mod Fields
+pub mod FrameLaws
 pub mod Frames
 pub mod SeenHead
 pub mod Going

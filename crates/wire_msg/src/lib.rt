@@ -9,6 +9,7 @@ mod feeder;
 mod head;
 mod heads;
 mod kind;
+pub mod laws;
 mod message;
 mod reading;
 mod short_bytes;
