@@ -54,7 +54,7 @@ ask_chain a b x y z d0 d1 d2 d6 d10 d14 e0 e1 e2 e6 e10 e14 = rw (e0, e1, e2, e6
 
 -- the fields of an encode request
 pub laid_ask : (fields : List ℕ) → length fields ≡ 14 → IsBytes fields
-    → ask_head (get_or fields 0 0) (get_or fields 1 0) (number_in fields 2) (number_in fields 6) (number_in fields 10) ≡ fields
+    → get_or fields 0 0 ∷ get_or fields 1 0 ∷ (be32 (number_in fields 2) ++ (be32 (number_in fields 6) ++ be32 (number_in fields 10))) ≡ fields
 laid_ask fields size bytes =
     ask_chain (get_or fields 0 0) (get_or fields 1 0) (be32 (number_in fields 2)) (be32 (number_in fields 6)) (be32 (number_in fields 10))
     (drop 0 fields) (drop 1 fields) (drop 2 fields) (drop 6 fields) (drop 10 fields) (drop 14 fields)

@@ -1,5 +1,5 @@
 -- A frame whose head is whole, as far as its body came.
-use Rattle.std.specs.Prelude.{◌≡◌, ℕ, ◌+◌, ◌<◌, ◌≤◌, ◌⊎◌, List, [], ◌++◌, length, nat_eq, cond}
+use Rattle.std.specs.Prelude.{◌≡◌, ℕ, ◌+◌, ◌<◌, ◌≤◌, ◌⊎◌, List, [], ◌++◌, length, take, nat_eq, cond}
 use Rattle.std.specs.declared.option.Option.{Option}
 use Rattle.std.specs.declared.option.Option.TheVariants.{None, Some}
 use Rattle.wire_msg.specs.Bytes.{IsBytes}
@@ -44,8 +44,14 @@ abbrev pub came : (front : List ℕ) → (begun : Option Partial) → List ℕ
 came front None = front
 came front (Some begun) = message_head begun.kind begun.size ++ begun.body
 
+-- the frame began with these bytes and the first ones of a piece
+abbrev pub IsBegunBy : (unfinished piece : List ℕ) → (taken : ℕ) → Partial → Type 0
+IsBegunBy unfinished piece taken begun = came [] (Some begun) ≡ unfinished ++ take taken piece
+
 -- They are fewer than a head, or begin no frame; or there is more of the body to come, and of the
 -- head no bytes are kept.
 abbrev pub IsWaiting : Side → (front : List ℕ) → (begun : Option Partial) → Type 0
-IsWaiting side front None = (length front ≤ head_size) × (length front ≡ head_size → BeginsNoHead side front)
-IsWaiting side front (Some begun) = (front ≡ []) × IsHead side begun.kind begun.size × (length begun.body < begun.size)
+IsWaiting side front None =
+    (length front ≤ head_size) × (length front ≡ head_size → BeginsNoHead side front)
+IsWaiting side front (Some begun) =
+    (front ≡ []) × IsHead side begun.kind begun.size × (length begun.body < begun.size)

@@ -1,5 +1,5 @@
 -- Which bytes are frames.
-use Rattle.std.specs.Prelude.{◌≡◌, ◌≢◌, ℕ, List, [], ◌++◌}
+use Rattle.std.specs.Prelude.{◌≡◌, ◌≢◌, ℕ, ◌⊎◌, List, [], ◌++◌}
 use Rattle.wire_msg.specs.Fits.{IsMessage}
 use Rattle.wire_msg.specs.Spelling.{frame_of}
 use Rattle.wire_msg.specs.declared.kind.Side.{Side}
@@ -28,6 +28,10 @@ pub record IsUnfinished (side : Side) (bytes : List ℕ) : Type 0 where
   pub rest : List ℕ
   pub wants_some : rest ≢ []
   pub completed : IsFrame side (bytes ++ rest)
+
+-- the bytes begin with a whole frame, or are a prefix of one and not all of it
+abbrev pub LeadsToFrame : Side → List ℕ → Type 0
+LeadsToFrame side bytes = BeginsFrame side bytes ⊎ IsUnfinished side bytes
 
 -- the bytes begin with no whole frame, and are a prefix of none
 pub record IsNoFrame (side : Side) (bytes : List ℕ) : Type 0 where

@@ -1,5 +1,5 @@
 -- The head of a frame: seven bytes, the same for all kinds of messages.
-use Rattle.std.specs.Prelude.{◌≡◌, ℕ, ◌≤◌, ◌⊎◌, List, ◌∷◌}
+use Rattle.std.specs.Prelude.{◌≡◌, ◌≢◌, ℕ, ◌≤◌, ◌⊎◌, List, ◌∷◌}
 use Rattle.munge_types.specs.BigEndian.{be32}
 use Rattle.wire_msg.specs.declared.kind.Kind.{Kind}
 use Rattle.wire_msg.specs.declared.kind.Kind.TheVariants as kind
@@ -39,6 +39,10 @@ side_of_kind kind.DecodeReply = Replies
 side_of_kind kind.Stop = Requests
 side_of_kind kind.Bye = Replies
 
+-- it is the third byte of no frame of this side
+abbrev pub IsNoKind : Side → (number : ℕ) → Type 0
+IsNoKind side number = (kind : Kind) → side_of_kind kind ≡ side → number ≢ kind_number kind
+
 -- the most bytes of a body
 abbrev pub body_limit : ℕ
 body_limit = 2097152
@@ -59,11 +63,15 @@ content_size = 30
 abbrev pub showing_size : ℕ
 showing_size = 40
 
+-- from the least that is named here up to the limit
+abbrev pub AllowsFrom : (least size : ℕ) → Type 0
+AllowsFrom least size = (least ≤ size) × (size ≤ body_limit)
+
 -- the body of a message of this kind may have so many bytes
 abbrev pub AllowsSize : Kind → ℕ → Type 0
-AllowsSize kind.EncodeRequest size = (asked_size ≤ size) × (size ≤ body_limit)
-AllowsSize kind.EncodeReply size = (1 ≤ size) × (size ≤ body_limit)
+AllowsSize kind.EncodeRequest size = AllowsFrom asked_size size
+AllowsSize kind.EncodeReply size = AllowsFrom 1 size
 AllowsSize kind.DecodeRequest size = size ≤ body_limit
-AllowsSize kind.DecodeReply size = (size ≡ reply_size) ⊎ ((showing_size ≤ size) × (size ≤ body_limit))
+AllowsSize kind.DecodeReply size = (size ≡ reply_size) ⊎ AllowsFrom showing_size size
 AllowsSize kind.Stop size = size ≡ 0
 AllowsSize kind.Bye size = size ≡ 1

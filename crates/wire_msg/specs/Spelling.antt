@@ -27,8 +27,8 @@ abbrev pub side_of : Message → Side
 side_of message = side_of_kind (kind_of message)
 
 -- the fourteen bytes of an encode request before the payload
-abbrev pub ask_head : (cipher kind ttl for_uid for_gid : ℕ) → List ℕ
-ask_head cipher kind ttl for_uid for_gid = cipher ∷ kind ∷ (be32 ttl ++ (be32 for_uid ++ be32 for_gid))
+abbrev pub ask_head : EncodeAsk → List ℕ
+ask_head ask = ask.cipher ∷ ask.kind ∷ (be32 ask.ttl ++ (be32 ask.for_uid ++ be32 ask.for_gid))
 
 -- the ten bytes of a decode reply before the content: status, rule and place
 abbrev pub reply_head : (status rule place : ℕ) → List ℕ
@@ -62,10 +62,11 @@ content_bytes (Some content) = content_head (fields_of content) ++ content.paylo
 
 -- the body of a message
 abbrev pub body_of : Message → List ℕ
-body_of (EncodeRequest ask) = ask_head ask.cipher ask.kind ask.ttl ask.for_uid ask.for_gid ++ ask.payload
+body_of (EncodeRequest ask) = ask_head ask ++ ask.payload
 body_of (EncodeReply said) = said.status ∷ said.text
 body_of (DecodeRequest text) = text
-body_of (DecodeReply said) = reply_head said.status said.rule said.place ++ content_bytes said.content
+body_of (DecodeReply said) =
+    reply_head said.status said.rule said.place ++ content_bytes said.content
 body_of Stop = []
 body_of (Bye status) = status ∷ []
 

@@ -35,7 +35,11 @@ impl Model for Begun {
 
     ghost Value = { Partial };
 
-    ghost view = { λ begun. record { kind = begun.head.kind; size = begun.head.size; body = begun.fields ++ begun.tail.bytes } };
+    ghost view = { λ begun. record {
+      kind = begun.head.kind;
+      size = begun.head.size;
+      body = begun.fields ++ begun.tail.bytes;
+    } };
 
     ghost invariant = { λ begun. IsKept begun.head.size (fixed_size begun.head.kind begun.head.size)
         begun.fields begun.tail.bytes begun.tail.spare begun.missing };

@@ -1,12 +1,12 @@
 //! Frames from pieces of a stream.
 
-ghost use Rattle.std.specs.Prelude.{◌≡◌, ℕ, ◌+◌, ◌<◌, ◌≤◌, ◌⊎◌, ◌-◌, List, [], ◌++◌, length, take, Ok, Some, IfOk, OnErr};
+ghost use Rattle.std.specs.Prelude.{◌≡◌, ℕ, ◌+◌, ◌<◌, ◌≤◌, ◌-◌, List, [], ◌++◌, length, take, Ok, IfOk, OnErr};
+ghost use Rattle.wire_msg.specs.Begun.{IsBegunBy};
 ghost use Rattle.wire_msg.specs.Bytes.{IsBytes};
-ghost use Rattle.wire_msg.specs.Feeding.{Answers, Leaves};
-ghost use Rattle.wire_msg.specs.Frame.{BeginsFrame, IsFrame, IsNoFrame, IsUnfinished};
+ghost use Rattle.wire_msg.specs.Feeding.{Answers, Leaves, bytes_with};
+ghost use Rattle.wire_msg.specs.Frame.{IsFrame, IsNoFrame, IsUnfinished, LeadsToFrame};
 ghost use Rattle.wire_msg.specs.FrameHead.{head_size};
 ghost use Rattle.wire_msg.specs.Head.{IsHead};
-ghost use Rattle.wire_msg.specs.Begun.{came};
 ghost use Rattle.wire_msg.specs.declared.fed.Fed.TheVariants.{Bad};
 
 use crate::begun::Begun;
@@ -70,11 +70,10 @@ impl Feeder {
         ensures leaves { IfOk result (λ fed. Leaves self.old piece.now fed self.new) }
         ensures side { self.new.side ≡ self.old.side }
         ensures unchanged { OnErr result (self.new ≡ self.old) }
-        ensures wants_memory { OnErr result (BeginsFrame self.old.side (self.old.unfinished ++ piece.now)
-            ⊎ IsUnfinished self.old.side (self.old.unfinished ++ piece.now)) }
+        ensures wants_memory { OnErr result (LeadsToFrame self.old.side (bytes_with self.old piece.now)) }
 
         // So it is after Bad.
-        ensures bad { IsNoFrame self.old.side (self.old.unfinished ++ piece.now)
+        ensures bad { IsNoFrame self.old.side (bytes_with self.old piece.now)
             → result ≡ Ok (Bad self.old.begins) }
     {
         if let Some(begun) = self.begun.take() {
@@ -102,12 +101,13 @@ impl Feeder {
     /// the head lacks, and then those that the frame lacks. It takes no memory.
     pub fn wanted(&self) -> usize
         ensures head { IsUnfinished self.now.side self.now.unfinished
-            → length self.now.unfinished < head_size → result + length self.now.unfinished ≡ head_size }
-        ensures least { (piece : List ℕ) → IsFrame self.now.side (self.now.unfinished ++ piece)
+            → length self.now.unfinished < head_size
+            → result + length self.now.unfinished ≡ head_size }
+        ensures least { (piece : List ℕ) → IsFrame self.now.side (bytes_with self.now piece)
             → result ≤ length piece }
         ensures enough { IsUnfinished self.now.side self.now.unfinished
             → head_size ≤ length self.now.unfinished → (piece : List ℕ) → IsBytes piece
-            → length piece ≡ result → IsFrame self.now.side (self.now.unfinished ++ piece) }
+            → length piece ≡ result → IsFrame self.now.side (bytes_with self.now piece) }
         ensures some { IsUnfinished self.now.side self.now.unfinished → 1 ≤ result }
     {
         match &self.begun {
@@ -120,9 +120,9 @@ impl Feeder {
     fn go_on(&mut self, mut begun: Begun, piece: &[u8], taken: usize) -> Fed
         requires head { IsHead self.old.side begun.kind begun.size }
         requires taken { taken ≤ length piece.now }
-        ensures answers { (unfinished : List ℕ) → came [] (Some begun) ≡ unfinished ++ take taken piece.now
+        ensures answers { (unfinished : List ℕ) → IsBegunBy unfinished piece.now taken begun
             → Answers (record self.old { unfinished = unfinished }) piece.now result }
-        ensures leaves { (unfinished : List ℕ) → came [] (Some begun) ≡ unfinished ++ take taken piece.now
+        ensures leaves { (unfinished : List ℕ) → IsBegunBy unfinished piece.now taken begun
             → Leaves (record self.old { unfinished = unfinished }) piece.now result self.new }
         ensures side { self.new.side ≡ self.old.side }
     {

@@ -3,7 +3,7 @@
 ghost use Rattle.std.specs.Prelude.{◌≡◌, ◌≤◌, ℕ, IfNone, IfSome, length};
 ghost use Rattle.std.specs.Int.{w32, from_be_bytes};
 ghost use Rattle.wire_msg.specs.FrameHead.{AllowsSize, head_size};
-ghost use Rattle.wire_msg.specs.Head.{Sees, SeesSize, filled};
+ghost use Rattle.wire_msg.specs.Head.{IsLeast, Sees, SeesSize, filled};
 
 use crate::heads::{ASKED_SIZE, MAGIC, REPLY_SIZE, SHOWING_SIZE, VERSION};
 use crate::kind::BODY_LIMIT;
@@ -69,7 +69,8 @@ fn size_in(kind: Kind, bytes: &[u8]) -> Seen
     }
 }
 
-/// The length whose first bytes are these, of which there are at most four, and all others this one.
+/// The length whose first bytes are these, of which there are at most four, and all others this
+/// one.
 fn size_with(bytes: &[u8], other: u8) -> u32
     requires { length bytes.now ≤ 4 }
     ensures { result ≡ from_be_bytes w32 (filled other bytes.now) }
@@ -83,7 +84,7 @@ fn size_with(bytes: &[u8], other: u8) -> u32
 fn allowed_from(kind: Kind, from: u32) -> Option<u32>
     ensures allowed { IfSome result (AllowsSize kind) }
     ensures not_below { IfSome result (λ size. from ≤ size) }
-    ensures least { IfSome result (λ size. (other : ℕ) → from ≤ other → AllowsSize kind other → size ≤ other) }
+    ensures least { IfSome result (IsLeast kind from) }
     ensures none { IfNone result ((other : ℕ) → from ≤ other → AllowsSize kind other → ⊥) }
 {
     let size = match kind {

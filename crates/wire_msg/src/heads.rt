@@ -1,13 +1,13 @@
 //! The parts of frames that have a fixed size, for who writes a frame into a buffer of his own.
 
-ghost use Rattle.std.specs.Prelude.{◌≡◌, ◌+◌, ◌≤◌, ◌++◌, length, take};
+ghost use Rattle.std.specs.Prelude.{◌≡◌, ◌+◌, ◌^◌, ◌<◌, ◌≤◌, ◌++◌, length, take};
 ghost use Rattle.munge_types.specs.BigEndian.{be32};
 ghost use Rattle.wire_msg.specs.Bytes.{IsBytes};
-ghost use Rattle.wire_msg.specs.Fits.{FitsContentFields};
-ghost use Rattle.wire_msg.specs.FrameHead.{content_size, message_head};
+ghost use Rattle.wire_msg.specs.Fits.{FitsAsk, FitsContentFields};
+ghost use Rattle.wire_msg.specs.FrameHead.{message_head};
 ghost use Rattle.wire_msg.specs.Spelling.{ask_head, content_head, reply_head};
 
-use crate::{ContentFields, Kind};
+use crate::{ContentFields, EncodeAsk, Kind};
 use byteorder::{BigEndian, ByteOrder};
 
 /// The bytes of a head.
@@ -41,25 +41,20 @@ pub fn message_head(kind: Kind, size: u32) -> [u8; HEAD_SIZE]
 }
 
 /// The bytes of an encode request's body before the payload.
-pub(crate) fn ask_head(
-    cipher: u8,
-    kind: u8,
-    ttl: u32,
-    for_uid: u32,
-    for_gid: u32,
-) -> [u8; ASKED_SIZE]
-    ensures { result ≡ ask_head cipher kind ttl for_uid for_gid }
+pub(crate) fn ask_head(ask: &EncodeAsk) -> [u8; ASKED_SIZE]
+    ensures head { result ≡ ask_head ask.now }
+    ensures fits { IsBytes ask.now.payload → FitsAsk ask.now }
 {
     let mut head = [0; ASKED_SIZE];
-    head[0] = cipher;
-    head[1] = kind;
-    BigEndian::write_u32(&mut head[2..6], ttl);
-    BigEndian::write_u32(&mut head[6..10], for_uid);
-    BigEndian::write_u32(&mut head[10..14], for_gid);
+    put(&mut head, 0, &[ask.cipher, ask.kind]);
+    put(&mut head, 2, &four_bytes(ask.ttl));
+    put(&mut head, 6, &four_bytes(ask.for_uid));
+    put(&mut head, 10, &four_bytes(ask.for_gid));
     head
 }
 
-/// The bytes of a decode reply's body before the content: status, rule and place. It takes no memory.
+/// The bytes of a decode reply's body before the content: status, rule and place. It takes no
+/// memory.
 pub fn reply_head(status: u8, rule: u8, place: u64) -> [u8; REPLY_SIZE]
     ensures { result ≡ reply_head status rule place }
 {
@@ -85,9 +80,9 @@ pub fn content_head(fields: &ContentFields) -> [u8; CONTENT_SIZE]
     head
 }
 
-/// Writes the bytes at this place of a content.
-fn put(head: &mut [u8; CONTENT_SIZE], at: usize, bytes: &[u8])
-    requires { at + length bytes.now ≤ content_size }
+/// Writes the bytes at this place.
+fn put(head: &mut [u8], at: usize, bytes: &[u8])
+    requires { at + length bytes.now ≤ length head.old }
     ensures front { take (at + length bytes.now) head.new ≡ take at head.old ++ bytes.now }
     // Its callers cannot see this of a field.
     ensures bytes { IsBytes bytes.now }
@@ -97,7 +92,9 @@ fn put(head: &mut [u8; CONTENT_SIZE], at: usize, bytes: &[u8])
 
 /// A number in four bytes, the highest first.
 fn four_bytes(number: u32) -> [u8; 4]
-    ensures { result ≡ be32 number }
+    ensures bytes { result ≡ be32 number }
+    // Its callers cannot see this of a field.
+    ensures fits { number < 2 ^ 32 }
 {
     let mut bytes = [0; 4];
     BigEndian::write_u32(&mut bytes, number);

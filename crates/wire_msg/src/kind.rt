@@ -1,7 +1,7 @@
 //! Who sends what.
 
-ghost use Rattle.std.specs.Prelude.{◌≡◌, ◌≢◌, IfSome, IfNone};
-ghost use Rattle.wire_msg.specs.FrameHead.{kind_number, side_of_kind};
+ghost use Rattle.std.specs.Prelude.{◌≡◌, IfSome, IfNone};
+ghost use Rattle.wire_msg.specs.FrameHead.{IsNoKind, kind_number, side_of_kind};
 
 /// The most bytes of a body.
 pub const BODY_LIMIT: u32 = 2_097_152;
@@ -51,7 +51,7 @@ impl Kind {
     pub(crate) fn of(number: u8, side: Side) -> Option<Kind>
         ensures number { IfSome result (λ kind. number ≡ kind_number kind) }
         ensures side { IfSome result (λ kind. side_of_kind kind ≡ side) }
-        ensures none { IfNone result ((kind : Kind) → side_of_kind kind ≡ side → number ≢ kind_number kind) }
+        ensures none { IfNone result (IsNoKind side number) }
     {
         match side {
             Side::Requests => match number {

@@ -38,7 +38,7 @@ fn ask_in(fields: &[u8], payload: Bytes) -> EncodeAsk
     requires size { length fields.now ≡ asked_size }
     requires bytes { IsBytes payload }
     ensures fits { FitsAsk result }
-    ensures fields { ask_head result.cipher result.kind result.ttl result.for_uid result.for_gid ≡ fields.now }
+    ensures fields { ask_head result ≡ fields.now }
     ensures payload { result.payload ≡ payload }
 {
     EncodeAsk {

@@ -90,7 +90,7 @@ fn put_body(out: &mut Room, message: &Message)
 {
     match message {
         Message::EncodeRequest(ask) => {
-            out.put(&ask_head(ask.cipher, ask.kind, ask.ttl, ask.for_uid, ask.for_gid));
+            out.put(&ask_head(ask));
             out.put(ask.payload.bytes());
         }
         Message::EncodeReply(said) => {
