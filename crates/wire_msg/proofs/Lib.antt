@@ -1,0 +1,13 @@
+pub mod Answered
+pub mod ByteLists
+pub mod Decided
+pub mod Fields
+pub mod FrameLaws
+pub mod Frames
+pub mod Going
+pub mod Parts
+pub mod SeenHead
+pub mod Sizes
+pub mod Spelled
+pub mod Waiting
+pub mod WrittenFields
