@@ -1,11 +1,12 @@
 -- Pairs in groups by their expiry.
-use Rattle.std.proofs.Common.{◌≡◌, ℕ, zero, suc, ◌+◌, ◌-◌, ◌<◌, ◌≤◌, min, Bool, true, false, not, ◌&&◌, ◌||◌, cond, nat_eq, nat_lt, nat_le, Option, Some, None, List, [], ◌∷◌, ◌++◌, length, map, drop, append_assoc, ap, sym, ◌∙◌, refl, subst, arith, length-append, inl, inr}
-use Rattle.std.proofs.lemmas.Bool.{cases_Bool, cases_lt, eqb-true, ltb-true, eq-eqb, ne_eqb, or_left, or_from, ltb-false, eqb-false, lt-ltb, le-ltb, le-leb, lt-leb}
+use Rattle.std.proofs.Common.{◌≡◌, ℕ, zero, suc, ◌+◌, ◌<◌, ◌≤◌, min, Bool, true, false, not, ◌&&◌, ◌||◌, cond, nat_eq, nat_lt, nat_le, Some, None, List, [], ◌∷◌, ◌++◌, length, drop, append_assoc, ap, sym, ◌∙◌, refl, subst, arith, length-append, inl, inr}
+use Rattle.std.proofs.lemmas.Bool.{cases_lt, eqb-true, ltb-true, eq-eqb, ne_eqb, or_left, or_from, ltb-false, eqb-false, lt-ltb, le-ltb, le-leb, lt-leb}
 use Rattle.std.proofs.lemmas.Bool.Decides.{nat_tests}
+use Rattle.std.proofs.Math.Bool.{or-false}
 use Rattle.std.proofs.lemmas.List.{map-append}
 use Rattle.std.proofs.lemmas.List.Elements.{filter-append}
 use Rattle.std.proofs.lemmas.List.Folds.{list_any-append}
-use Rattle.std.proofs.lemmas.List.Sorted.{IsPermutation-refl, IsPermutation-sym, IsPermutation-to_front, IsPermutation-append_comm, IsPermutation-append_right, IsPermutation-trans}
+use Rattle.std.proofs.lemmas.List.Sorted.{list_any-IsPermutation, IsPermutation-refl, IsPermutation-to_front, IsPermutation-append_comm, IsPermutation-append_right}
 use Rattle.std.proofs.lemmas.List.Sums.{sum_by-cons}
 use Rattle.std.proofs.lemmas.Map.Keys.{sorted_head, sorted_tail}
 use Rattle.std.specs.BTreeMap.{is_at, insert_entry}
@@ -18,7 +19,7 @@ use Rattle.std.specs.declared.ops.Bound.TheVariants.{Included, Excluded}
 use Rattle.std.specs.declared.cmp.Ordering.{Ordering}
 use Rattle.std.specs.declared.cmp.Ordering.TheVariants.{Less, Equal, Greater}
 use Rattle.munge_types.proofs.ExpiryLemmas.{expiries_below-zero, expiries_below-next}
-use Rattle.munge_types.proofs.PurgeLemmas.{IsCut, purged-cut}
+use Rattle.munge_types.proofs.PurgeLemmas.{purged-cut}
 use Rattle.munge_types.specs.Live.{is_live}
 use Rattle.munge_types.specs.Purge.{expiries, expiries_below, purged}
 use Rattle.munge_types.specs.declared.pair.Pair.{Pair}
@@ -83,7 +84,7 @@ pairs_of-set_value expiry mac (group ∷ groups) macs found =
         → (lookup (is_at (nat_cmp expiry)) groups ≡ Some macs
         → IsPermutation (pairs_of groups ++ pair_of expiry mac ∷ []) (pairs_of (set_value (is_at (nat_cmp expiry)) groups (macs ++ mac ∷ []))))
         → IsPermutation (pairs_of (group ∷ groups) ++ pair_of expiry mac ∷ [])
-            (pairs_of (cond here ((group.0, macs ++ mac ∷ []) ∷ groups) (group ∷ set_value (is_at (nat_cmp expiry)) groups (macs ++ mac ∷ []))))
+        (pairs_of (cond here ((group.0, macs ++ mac ∷ []) ∷ groups) (group ∷ set_value (is_at (nat_cmp expiry)) groups (macs ++ mac ∷ []))))
     by_test true is same later =
         let at : group.0 ≡ expiry = sym (found_is expiry group.0 (sym is)) in
         let these : group.1 ≡ macs = cc in
@@ -104,7 +105,7 @@ pairs_of-insert_entry expiry mac (group ∷ groups) absent =
         → (lookup (is_at (nat_cmp expiry)) groups ≡ None
         → IsPermutation (pairs_of groups ++ pair_of expiry mac ∷ []) (pairs_of (insert_entry nat_cmp groups expiry (mac ∷ []))))
         → IsPermutation (pairs_of (group ∷ groups) ++ pair_of expiry mac ∷ [])
-            (pairs_of (match_ordering order ((expiry, mac ∷ []) ∷ group ∷ groups) ((group.0, mac ∷ []) ∷ groups) (group ∷ insert_entry nat_cmp groups expiry (mac ∷ []))))
+        (pairs_of (match_ordering order ((expiry, mac ∷ []) ∷ group ∷ groups) ((group.0, mac ∷ []) ∷ groups) (group ∷ insert_entry nat_cmp groups expiry (mac ∷ []))))
     by_order Less none later = IsPermutation-to_front (pairs_of (group ∷ groups)) (pair_of expiry mac)
     by_order Equal none later = cc
     by_order Greater none later =
@@ -128,7 +129,7 @@ pub filled-insert_entry : (expiry : ℕ) (groups : List (ℕ × List (List ℕ))
 filled-insert_entry expiry [] macs some filled = (some, tt)
 filled-insert_entry expiry (group ∷ groups) macs some filled =
     elim (nat_cmp expiry group.0) as (λ o. AllByRecursion (λ (g : ℕ × List (List ℕ)). 0 < length g.1)
-        (match_ordering o ((expiry, macs) ∷ group ∷ groups) ((group.0, macs) ∷ groups) (group ∷ insert_entry nat_cmp groups expiry macs))) [
+    (match_ordering o ((expiry, macs) ∷ group ∷ groups) ((group.0, macs) ∷ groups) (group ∷ insert_entry nat_cmp groups expiry macs))) [
       | Less ↦ (some, filled)
       | Equal ↦ (some, filled.1)
       | Greater ↦ (filled.0, filled-insert_entry expiry groups macs some filled.1)
@@ -191,7 +192,7 @@ pub count-between : (from to : ℕ) (groups : List (ℕ × List (List ℕ))) →
 count-between from to [] within = refl
 count-between from to (group ∷ groups) within =
     let here : cond {A = ℕ} (range_contains nat_cmp (Included from) (Excluded to) group.0) 1 0
-        ≡ cond (nat_le from group.0 && not (nat_le to group.0)) 1 0 =
+    ≡ cond (nat_le from group.0 && not (nat_le to group.0)) 1 0 =
     ap (λ b. cond (b && not (is_le (nat_cmp to group.0))) 1 0) (le_test from group.0)
     ∙ ap (λ b. cond (nat_le from group.0 && not b) 1 0) (le_test to group.0) in
     omega (
@@ -333,3 +334,32 @@ length-pairs_of-drop zero groups = omega arith
 length-pairs_of-drop (suc n) [] = omega arith
 length-pairs_of-drop (suc n) (group ∷ groups) =
     omega (arith, length-append (pairs_at group.0 group.1) (pairs_of groups), length-pairs_of-drop n groups)
+
+-- ---- one more pair
+
+-- lists with the same expiries below a bound have as many of them
+expiries_below-same : (bound : ℕ) (pairs others : List Pair)
+    → ((e : ℕ) → e < bound → list_any (λ pair. nat_eq e pair.expiry) pairs ≡ list_any (λ pair. nat_eq e pair.expiry) others)
+    → expiries_below bound pairs ≡ expiries_below bound others
+expiries_below-same zero pairs others same = expiries_below-zero pairs ∙ sym (expiries_below-zero others)
+expiries_below-same (suc bound) pairs others same =
+    let next : suc bound ≡ bound + 1 = omega arith in
+    let here : cond {A = ℕ} (list_any (λ pair. nat_eq bound pair.expiry) pairs) 1 0 ≡ cond (list_any (λ pair. nat_eq bound pair.expiry) others) 1 0 =
+    ap (λ t. cond t 1 0) (same bound (omega arith)) in
+    rw next (omega (
+      arith,
+      here,
+      expiries_below-next bound pairs,
+      expiries_below-next bound others,
+      expiries_below-same bound pairs others (λ e under. same e (omega (arith, under))),
+    ))
+
+-- a pair that does not expire below the bound counts for nothing
+pub expiries_below-more : (bound : ℕ) (pairs more : List Pair) (pair : Pair) → bound ≤ pair.expiry → IsPermutation (pairs ++ pair ∷ []) more
+    → expiries_below bound pairs ≡ expiries_below bound more
+expiries_below-more bound pairs more pair above moved =
+    expiries_below-same bound pairs more (λ e under.
+    sym (or-false (list_any (λ other. nat_eq e other.expiry) pairs))
+    ∙ ap (λ t. list_any (λ other. nat_eq e other.expiry) pairs || (t || false)) (sym (ne_eqb e pair.expiry (λ same. omega (arith, under, same, above))))
+    ∙ sym (list_any-append (λ other. nat_eq e other.expiry) pairs (pair ∷ []))
+    ∙ list_any-IsPermutation (λ other. nat_eq e other.expiry) (pairs ++ pair ∷ []) more moved)

@@ -1,4 +1,4 @@
-use Rattle.std.proofs.Common.{◌≡◌, ◌++◌, ◌∷◌, [], drop, ap, sym, ◌∙◌}
+use Rattle.std.proofs.Common.{◌∷◌, [], drop, ap, sym, ◌∙◌}
 use Rattle.std.proofs.lemmas.List.{map-append}
 use Rattle.replay_table.proofs.GroupLemmas.{pair_of}
 use Rattle.replay_table.proofs.SetLemmas.{IsSetOf-removed}

@@ -1,4 +1,4 @@
-use Rattle.std.proofs.Common.{◌≡◌, true, cond, Result, Ok, Err, IsOk, OnOk, ap, ◌∙◌, arith}
+use Rattle.std.proofs.Common.{true, cond, Result, Ok, Err, IsOk, OnOk, ap, ◌∙◌, arith}
 use Rattle.munge_types.specs.Pair.{pair_eq}
 use Rattle.replay_table.proofs.SetLemmas.{IsSetOf-inserted}
 use Rattle.replay_table.proofs.indexed_pairs.IndexedPairs.insert.Goals as goal
@@ -27,4 +27,3 @@ invariant_of-self-2 g c = record {
       (λ sought. put.0 sought ∙ ap (cond (pair_eq c.args.pair.now sought) true) (c.in_ok-reserve.ensures.keys.2 sought))
       c.self.invariant.pairs;
 }
-
