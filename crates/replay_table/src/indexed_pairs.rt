@@ -1,11 +1,10 @@
 //! Pairs that are found by themselves and by their expiry.
 
-ghost use Rattle.std.specs.Prelude.{◌≡◌, ℕ, ◌+◌, ◌<◌, ◌≤◌, ◌++◌, ◌∷◌, [], OnOk, OnErr, length, drop, false};
+ghost use Rattle.std.specs.Prelude.{◌≡◌, ◌≤◌, [], OnOk, OnErr, length, drop, false};
 ghost use Rattle.std.specs.List.{list_any};
-ghost use Rattle.std.specs.List.Sorted.{IsPermutation};
 ghost use Rattle.munge_types.specs.Pair.{pair_eq};
-ghost use Rattle.munge_types.specs.Purge.{expiries_below};
-ghost use Rattle.replay_table.specs.Groups.{pairs_of, IsGrouped};
+ghost use Rattle.replay_table.specs.Expiries.{HasExpiries};
+ghost use Rattle.replay_table.specs.Groups.{pairs_of, AddsPair, IsGrouped};
 
 use crate::macs::Macs;
 use munge_types::Pair;
@@ -64,7 +63,7 @@ impl<S: BuildHasher + Drop> IndexedPairs<S> {
     pub(crate) fn expiries_between(&self, from: u64, to: u64) -> usize
         requires { from ≤ to }
         ensures grouped { IsGrouped self.now }
-        ensures counted { expiries_below from (pairs_of self.now) + result ≡ expiries_below to (pairs_of self.now) }
+        ensures counted { HasExpiries from to result (pairs_of self.now) }
     {
         self.by_expiry.range(from..to).count()
     }
@@ -72,7 +71,7 @@ impl<S: BuildHasher + Drop> IndexedPairs<S> {
     /// Enters a pair that is not among them. Without memory for it they are as before.
     pub(crate) fn insert(&mut self, pair: &Pair) -> Result<(), AllocError>
         requires { list_any (pair_eq pair.now) (pairs_of self.old) ≡ false }
-        ensures inserted { OnOk result (IsPermutation (pairs_of self.old ++ pair.now ∷ []) (pairs_of self.new)) }
+        ensures inserted { OnOk result (AddsPair self.old self.new pair.now) }
         ensures err { OnErr result (self.new ≡ self.old) }
     {
         self.set.reserve(1)?;
@@ -110,7 +109,7 @@ fn put_mac(
 ) -> Result<(), AllocError>
     requires { IsGrouped by_expiry.old.entries }
     ensures grouped { IsGrouped by_expiry.new.entries }
-    ensures put { OnOk result (IsPermutation (pairs_of by_expiry.old.entries ++ pair.now ∷ []) (pairs_of by_expiry.new.entries)) }
+    ensures put { OnOk result (AddsPair by_expiry.old.entries by_expiry.new.entries pair.now) }
     ensures err { OnErr result (by_expiry.new.entries ≡ by_expiry.old.entries) }
 {
     if let Some(macs) = by_expiry.get_mut(&pair.expiry) {

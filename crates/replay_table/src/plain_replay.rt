@@ -22,7 +22,8 @@ impl PlainReplay {
     pub fn new(alloc: Global) -> PlainReplay
         ensures floor { ⟦<PlainReplay as Replay>⟧.floor_moment result ≡ 0 }
         ensures kept { ⟦<PlainReplay as Replay>⟧.kept_pairs result ≡ [] }
-        ensures stands { StandsFor (⟦<PlainReplay as Replay>⟧.floor_moment result) (⟦<PlainReplay as Replay>⟧.kept_pairs result) [] }
+        ensures stands { let state = ⟦<PlainReplay as Replay>⟧ in
+            StandsFor (state.floor_moment result) (state.kept_pairs result) [] }
     {
         PlainReplay {
             floor: 0,

@@ -1,9 +1,8 @@
 //! The purged table: a replay structure for many pairs.
 
 ghost use Rattle.std.specs.Prelude.{◌≡◌, []};
-ghost use Rattle.munge_types.specs.Purge.{expiries_below};
 ghost use Rattle.munge_types.specs.StandsFor.{StandsFor};
-ghost use Rattle.replay_table.specs.Groups.{pairs_of};
+ghost use Rattle.replay_table.specs.Groups.{expiries_under, pairs_of};
 
 use crate::indexed_pairs::IndexedPairs;
 use munge_types::{NoMemory, Pair, Purged, Replay, Verdict};
@@ -18,7 +17,7 @@ pub struct ReplayTable<S: BuildHasher> {
     floor: u32,
     below: u64,
     pairs: IndexedPairs<S>,
-    ghost counted: { below ≡ expiries_below floor (pairs_of pairs) },
+    ghost counted: { below ≡ expiries_under floor pairs },
 }
 
 impl<S: BuildHasher + Drop + Send> ReplayTable<S> {
@@ -27,7 +26,8 @@ impl<S: BuildHasher + Drop + Send> ReplayTable<S> {
     pub fn new(alloc: Global, hash_state: S) -> ReplayTable<S>
         ensures floor { ⟦<ReplayTable<S> as Replay>⟧.floor_moment result ≡ 0 }
         ensures kept { ⟦<ReplayTable<S> as Replay>⟧.kept_pairs result ≡ [] }
-        ensures stands { StandsFor (⟦<ReplayTable<S> as Replay>⟧.floor_moment result) (⟦<ReplayTable<S> as Replay>⟧.kept_pairs result) [] }
+        ensures stands { let state = ⟦<ReplayTable<S> as Replay>⟧ in
+            StandsFor (state.floor_moment result) (state.kept_pairs result) [] }
     {
         ReplayTable {
             floor: 0,

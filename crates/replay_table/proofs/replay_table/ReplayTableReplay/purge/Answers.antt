@@ -9,11 +9,12 @@ use Rattle.replay_table.proofs.GroupLemmas.{purged-pairs_of, expiries_below-drop
 use Rattle.replay_table.proofs.replay_table.ReplayTableReplay.purge.Goals as goal
 use Rattle.replay_table.proofs.replay_table.ReplayTableReplay.purge.Goals.{After-len}
 use Rattle.replay_table.proofs.replay_table.ReplayTableReplay.purge.Given.{Over}
+use Rattle.replay_table.specs.Expiries.{HasExpiries}
 use Rattle.replay_table.specs.Groups.{pairs_of}
 
 -- those that were below the old floor, and those that the floor passes
 all_below : (below passed floor from raised to : ℕ) (groups : List (ℕ × List (List ℕ))) → below ≡ expiries_below floor (pairs_of groups)
-    → from ≡ floor → to ≡ raised → expiries_below from (pairs_of groups) + passed ≡ expiries_below to (pairs_of groups)
+    → from ≡ floor → to ≡ raised → HasExpiries from to passed (pairs_of groups)
     → below + passed ≡ expiries_below raised (pairs_of groups)
 all_below below passed floor from raised to groups were at until counted =
     omega (arith, ap (λ bound. expiries_below bound (pairs_of groups)) at, ap (λ bound. expiries_below bound (pairs_of groups)) until)
