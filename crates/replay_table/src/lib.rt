@@ -9,3 +9,6 @@ mod replay_table;
 
 pub use plain_replay::PlainReplay;
 pub use replay_table::ReplayTable;
+
+#[cfg(test)]
+mod tests;

@@ -69,6 +69,3 @@ impl Replay for PlainReplay {
         self.floor
     }
 }
-
-#[cfg(test)]
-mod tests;
