@@ -142,7 +142,8 @@ impl<R: Replay + Drop> Service<R> {
     fn choose(&mut self, first: u32, apart: u32) -> Result<(), AllocError> {
         self.batch.clear();
         for step in 0..STEP {
-            let expiry = self.moment.saturating_add(first + apart * step);
+            let later = first.saturating_add(apart.saturating_mul(step));
+            let expiry = self.moment.saturating_add(later);
             for number in 0..self.each {
                 self.batch.push(pair_of(expiry, number))?;
             }
@@ -225,7 +226,13 @@ where
 pub fn run<R: Clock + Print + Files + Alloc>(rt: &R, alloc: Global) -> io::Result<()> {
     for each in [4000, 400, 40, 4] {
         let hash_state: BuildHasherDefault<FoldHasher> = BuildHasherDefault::new();
-        time(rt, alloc, "table", ReplayTable::new(alloc, hash_state), each)?;
+        time(
+            rt,
+            alloc,
+            "table",
+            ReplayTable::new(alloc, hash_state),
+            each,
+        )?;
     }
     for each in [40, 4] {
         time(rt, alloc, "list", PlainReplay::new(alloc), each)?;
