@@ -10,6 +10,7 @@ mod gate;
 mod lane;
 mod pace;
 mod rate;
+mod replay;
 
 use std::process::ExitCode;
 use std::{env, io};
@@ -19,6 +20,7 @@ fn main(rt: HostRuntime) -> io::Result<ExitCode> {
         match word.as_str() {
             "aes" => aes::run(&rt)?,
             "gate" => gate::run(&rt, rt.alloc())?,
+            "replay" => replay::run(&rt, rt.alloc())?,
             other => {
                 eprintln!(rt; "munge_bench: {other}: nothing of that name is timed")?;
                 return Ok(ExitCode::from(2));

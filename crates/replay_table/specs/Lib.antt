@@ -1,0 +1,3 @@
+pub mod Expiries
+pub mod Groups
+pub mod IndexedPairs

@@ -1,7 +1,7 @@
 //! Walks over the distinct expiries of pairs, the least first.
 
-ghost use Rattle.std.specs.Prelude.{◌≡◌, ℕ, ◌+◌, ◌<◌, ◌≤◌, min, nat_le, map, filter, fold};
-ghost use Rattle.munge_types.specs.Purge.{expiries_below};
+ghost use Rattle.std.specs.Prelude.{◌≡◌, ◌<◌, ◌≤◌, min, nat_le, map, filter, fold};
+ghost use Rattle.replay_table.specs.Expiries.{HasExpiries};
 
 use munge_types::Pair;
 
@@ -20,9 +20,9 @@ pub(crate) fn pass_expiries(pairs: &[Pair], from: u64, bound: u64, most: u64) ->
     requires { from ≤ bound }
     ensures from { from ≤ result.until }
     ensures bound { result.until ≤ bound }
-    ensures counted { expiries_below result.until pairs.now ≡ expiries_below from pairs.now + result.count }
+    ensures counted { HasExpiries from result.until result.count pairs.now }
     ensures most { result.count ≤ most }
-    ensures all { result.count < most → expiries_below bound pairs.now ≡ expiries_below result.until pairs.now }
+    ensures all { result.count < most → HasExpiries result.until bound 0 pairs.now }
     ensures few { result.count ≤ bound }
 {
     let mut until = from;

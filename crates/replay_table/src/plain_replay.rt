@@ -66,6 +66,3 @@ impl Replay for PlainReplay {
         self.floor
     }
 }
-
-#[cfg(test)]
-mod tests;

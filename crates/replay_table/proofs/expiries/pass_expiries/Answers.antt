@@ -5,7 +5,7 @@ use Rattle.replay_table.proofs.expiries.pass_expiries.Goals as goal
 pub returns-then-expiry-bound-clause-all : goal.returns-then-expiry-bound-clause-all
 returns-then-expiry-bound-clause-all c = λ less.
     let next = rw (← c.next_expiry-expiry.ensures) at (next_is c.expiries.until c.args.bound c.args.pairs.now c.expiries.invariant.bound) in
-    counted_to_bound c.expiries.until c.args.bound c.next_expiry-expiry.result c.args.pairs.now next (omega arith)
+    omega (arith, counted_to_bound c.expiries.until c.args.bound c.next_expiry-expiry.result c.args.pairs.now next (omega arith))
 
 pub overflow_add-until : goal.overflow_add-until
 overflow_add-until c =

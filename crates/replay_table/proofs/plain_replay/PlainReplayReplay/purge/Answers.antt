@@ -1,5 +1,5 @@
 -- The first walk parts what is dropped from what is kept, the second counts what is left below the floor.
-use Rattle.std.proofs.Common.{◌≡◌, ℕ, ◌+◌, ◌<◌, ◌≤◌, min, List, ◌∙◌, arith, rules, inl, inr}
+use Rattle.std.proofs.Common.{◌≡◌, ℕ, ◌+◌, ◌<◌, ◌≤◌, min, List, arith, rules, inl, inr}
 use Rattle.std.proofs.lemmas.Bool.{cases_lt}
 use Rattle.std.proofs.lemmas.Fn.{filter_same}
 use Rattle.std.proofs.lemmas.List.Sorted.{IsPermutation-refl}
@@ -11,18 +11,19 @@ use Rattle.munge_types.specs.Live.{is_live}
 use Rattle.munge_types.specs.Purge.{expiries_below}
 use Rattle.munge_types.specs.declared.pair.Pair.{Pair}
 use Rattle.replay_table.proofs.plain_replay.PlainReplayReplay.purge.Goals as goal
+use Rattle.replay_table.specs.Expiries.{HasExpiries}
 
 -- where the first walk stopped
 cut_at : (floor slice until count : ℕ) (kept : List Pair) → until ≤ floor
-    → expiries_below until kept ≡ expiries_below 0 kept + count → count ≤ slice
-    → (count < slice → expiries_below floor kept ≡ expiries_below until kept) → IsCut floor slice until count kept
+    → HasExpiries 0 until count kept → count ≤ slice
+    → (count < slice → HasExpiries until floor 0 kept) → IsCut floor slice until count kept
 cut_at floor slice until count kept within counted most all =
     let so_many : expiries_below until kept ≡ count = omega (arith, counted, expiries_below-zero kept) in
-    record { within = within; counted = so_many; most = most; all = λ less. all less ∙ so_many }
+    record { within = within; counted = so_many; most = most; all = λ less. omega (arith, all less, so_many) }
 
 -- what the second walk counted
 left_over : (floor slice until count end left : ℕ) (kept : List Pair) → IsCut floor slice until count kept
-    → expiries_below end kept ≡ expiries_below until kept + left → expiries_below floor kept ≡ expiries_below end kept
+    → HasExpiries until end left kept → HasExpiries end floor 0 kept
     → left + min (expiries_below floor kept) slice ≡ expiries_below floor kept
 left_over floor slice until count end left kept cut counted all =
     elim (cases_lt count slice) [
