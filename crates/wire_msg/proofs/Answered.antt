@@ -7,7 +7,7 @@ use Rattle.std.proofs.lemmas.List.{append_assoc, append-nil, length-append, leng
 use Rattle.wire_msg.proofs.Frames.{frame_laid, no_frame, unfinished_laid, unfinished_part, unfinished_prefix}
 use Rattle.wire_msg.proofs.ByteLists.{drop_bytes, take_bytes}
 use Rattle.wire_msg.specs.Begun.{IsWaiting, Partial, came}
-use Rattle.wire_msg.specs.Bytes.{IsBytes}
+use Rattle.munge_types.specs.Bytes.{IsBytes}
 use Rattle.wire_msg.specs.Feeding.{Answers, Feeding}
 use Rattle.wire_msg.specs.Frame.{BeginsFrame, IsFrame, IsNoFrame, IsUnfinished}
 use Rattle.wire_msg.specs.FrameHead.{message_head}

@@ -9,7 +9,7 @@ use Rattle.wire_msg.proofs.ByteLists.{drop_bytes, take_bytes}
 use Rattle.wire_msg.proofs.SeenHead.{sees_none, sees_magic, sees_version, sees_size}
 use Rattle.wire_msg.proofs.Sizes.{between, begins_so, exactly}
 use Rattle.wire_msg.proofs.Spelled.{allowed_within}
-use Rattle.wire_msg.specs.Bytes.{IsBytes}
+use Rattle.munge_types.specs.Bytes.{IsBytes}
 use Rattle.wire_msg.specs.Frame.{BeginsFrame, IsNoFrame, IsUnfinished}
 use Rattle.wire_msg.specs.FrameHead.{AllowsSize, body_limit, kind_number, message_head, side_of_kind}
 use Rattle.wire_msg.specs.Head.{BeginsNoHead, IsHead, IsHeadPart, IsSizePart, Sees, SeesSize, filled}

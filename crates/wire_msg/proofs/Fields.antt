@@ -7,7 +7,7 @@ use Rattle.std.proofs.lemmas.Nat.{be_bytes_4, be_bytes_8}
 use Rattle.munge_types.specs.BigEndian.{be32, be64}
 use Rattle.wire_msg.proofs.ByteLists.{take_bytes, drop_bytes}
 use Rattle.wire_msg.specs.Begun.{IsReplySize}
-use Rattle.wire_msg.specs.Bytes.{IsBytes}
+use Rattle.munge_types.specs.Bytes.{IsBytes}
 use Rattle.wire_msg.specs.Spelling.{ask_head, content_head, reply_head}
 
 -- the bytes at a place, and the numbers in four and in eight of them

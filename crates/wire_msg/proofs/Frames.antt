@@ -5,7 +5,7 @@ use Rattle.munge_types.specs.BigEndian.{be32}
 use Rattle.wire_msg.proofs.ByteLists.{append_bytes, zeros, length-zeros, zeros_bytes}
 use Rattle.wire_msg.proofs.Parts.{apart, number_apart, SameParts}
 use Rattle.wire_msg.proofs.Spelled.{Spelled, read_body, allowed_within, body_allowed}
-use Rattle.wire_msg.specs.Bytes.{IsBytes}
+use Rattle.munge_types.specs.Bytes.{IsBytes}
 use Rattle.wire_msg.specs.Fits.{IsMessage}
 use Rattle.wire_msg.specs.Frame.{BeginsFrame, IsFrame, IsFramePrefix, IsNoFrame, IsUnfinished}
 use Rattle.wire_msg.specs.FrameHead.{AllowsSize, message_head, kind_number, side_of_kind}

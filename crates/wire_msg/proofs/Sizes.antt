@@ -3,7 +3,7 @@ use Rattle.std.proofs.Common.{◌≡◌, ℕ, ◌+◌, ◌*◌, ◌/◌, ◌%◌
 use Rattle.std.specs.Int.{w32, from_be_bytes}
 use Rattle.std.proofs.lemmas.List.{append-nil}
 use Rattle.munge_types.specs.BigEndian.{be32}
-use Rattle.wire_msg.specs.Bytes.{IsBytes}
+use Rattle.munge_types.specs.Bytes.{IsBytes}
 use Rattle.wire_msg.specs.Head.{filled}
 
 pub record Between (least most size : ℕ) : Type 0 where

@@ -8,7 +8,7 @@ use Rattle.munge_types.specs.BigEndian.{be32, be64}
 use Rattle.wire_msg.proofs.ByteLists.{take_bytes, drop_bytes}
 use Rattle.wire_msg.proofs.Fields.{laid_ask, laid_reply, laid_content, number_in, number8_in, part_size, part_bytes}
 use Rattle.wire_msg.proofs.Parts.{apart, number_apart, number8_apart}
-use Rattle.wire_msg.specs.Bytes.{IsBytes}
+use Rattle.munge_types.specs.Bytes.{IsBytes}
 use Rattle.wire_msg.specs.Fits.{FitsAsk, FitsContent, FitsDecodeSaid, FitsEncodeSaid, FitsFields, IsMessage}
 use Rattle.wire_msg.specs.FrameHead.{AllowsSize, body_limit}
 use Rattle.wire_msg.specs.Spelling.{ask_head, body_of, content_bytes, content_head, fields_of, kind_of, reply_head}

@@ -7,7 +7,7 @@ use Rattle.std.proofs.lemmas.List.{append_assoc, length-append}
 use Rattle.wire_msg.proofs.ByteLists.{append_bytes}
 use Rattle.wire_msg.proofs.Frames.{frame_laid, frame_size, not_unfinished}
 use Rattle.wire_msg.specs.Begun.{IsWaiting, Partial, came}
-use Rattle.wire_msg.specs.Bytes.{IsBytes}
+use Rattle.munge_types.specs.Bytes.{IsBytes}
 use Rattle.wire_msg.specs.Frame.{IsFrame, IsUnfinished}
 use Rattle.wire_msg.specs.declared.kind.Side.{Side}
 

@@ -2,7 +2,7 @@
 use Rattle.std.specs.Prelude.{◌≡◌, ℕ, ◌+◌, ◌<◌, ◌≤◌, ◌⊎◌, List, [], ◌++◌, length, take, nat_eq, cond}
 use Rattle.std.specs.declared.option.Option.{Option}
 use Rattle.std.specs.declared.option.Option.TheVariants.{None, Some}
-use Rattle.wire_msg.specs.Bytes.{IsBytes}
+use Rattle.munge_types.specs.Bytes.{IsBytes}
 use Rattle.wire_msg.specs.FrameHead.{message_head, head_size, asked_size, reply_size, showing_size}
 use Rattle.wire_msg.specs.Head.{IsHead, BeginsNoHead}
 use Rattle.wire_msg.specs.declared.kind.Kind.{Kind}

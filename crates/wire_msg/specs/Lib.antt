@@ -1,5 +1,4 @@
 pub mod Begun
-pub mod Bytes
 pub mod Feeding
 pub mod Fits
 pub mod Frame

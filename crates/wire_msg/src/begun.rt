@@ -2,7 +2,7 @@
 
 ghost use Rattle.std.specs.Prelude.{◌≡◌, ◌+◌, ◌≤◌, [], ◌++◌, length, IfOk};
 ghost use Rattle.wire_msg.specs.Begun.{fixed_size};
-ghost use Rattle.wire_msg.specs.Bytes.{IsBytes};
+ghost use Rattle.munge_types.specs.Bytes.{IsBytes};
 ghost use Rattle.wire_msg.specs.Fits.{IsMessage};
 ghost use Rattle.wire_msg.specs.FrameHead.{AllowsSize, head_size, message_head, side_of_kind};
 ghost use Rattle.wire_msg.specs.Spelling.{frame_of};

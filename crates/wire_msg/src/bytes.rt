@@ -1,7 +1,7 @@
 //! Bytes of any number.
 
 ghost use Rattle.std.specs.Prelude.{◌≡◌};
-ghost use Rattle.wire_msg.specs.Bytes.{IsBytes};
+ghost use Rattle.munge_types.specs.Bytes.{IsBytes};
 
 use std::marker::Model;
 
@@ -15,7 +15,7 @@ pub struct Bytes {
 
 impl Model for Bytes {
     ghost use Rattle.std.specs.Prelude.{ℕ, List};
-    ghost use Rattle.wire_msg.specs.Bytes.{IsBytes};
+    ghost use Rattle.munge_types.specs.Bytes.{IsBytes};
 
     ghost Value = { List ℕ };
 

@@ -2,7 +2,7 @@
 
 ghost use Rattle.std.specs.Prelude.{◌≡◌, ℕ, ◌+◌, ◌<◌, ◌≤◌, ◌-◌, List, [], ◌++◌, length, take, Ok, IfOk, OnErr};
 ghost use Rattle.wire_msg.specs.Begun.{IsBegunBy};
-ghost use Rattle.wire_msg.specs.Bytes.{IsBytes};
+ghost use Rattle.munge_types.specs.Bytes.{IsBytes};
 ghost use Rattle.wire_msg.specs.Feeding.{Answers, Leaves, bytes_with};
 ghost use Rattle.wire_msg.specs.Frame.{IsFrame, IsNoFrame, IsUnfinished, LeadsToFrame};
 ghost use Rattle.wire_msg.specs.FrameHead.{head_size};
@@ -61,6 +61,14 @@ impl Feeder {
             front: ShortBytes::new(),
             begun: None,
         }
+    }
+
+    /// Where the frame begins whose bytes come now: how many bytes the whole frames before had. It
+    /// stays at 18446744073709551615 once there. It takes no memory.
+    pub fn place(&self) -> u64
+        ensures { result ≡ self.now.begins }
+    {
+        self.begins
     }
 
     /// Takes the next bytes of the stream, up to the end of a frame. After want of memory nothing

@@ -2,7 +2,7 @@
 
 ghost use Rattle.std.specs.Prelude.{◌≡◌, ◌+◌, ◌^◌, ◌<◌, ◌≤◌, ◌++◌, length, take};
 ghost use Rattle.munge_types.specs.BigEndian.{be32};
-ghost use Rattle.wire_msg.specs.Bytes.{IsBytes};
+ghost use Rattle.munge_types.specs.Bytes.{IsBytes};
 ghost use Rattle.wire_msg.specs.Fits.{FitsAsk, FitsContentFields};
 ghost use Rattle.wire_msg.specs.FrameHead.{message_head};
 ghost use Rattle.wire_msg.specs.Spelling.{ask_head, content_head, reply_head};

@@ -1,7 +1,7 @@
 //! Laws of frames. A function here does nothing: its contract is the law.
 
 ghost use Rattle.std.specs.Prelude.{◌≡◌, ◌≤◌, ◌⊎◌, ℕ, List, [], ◌++◌, length};
-ghost use Rattle.wire_msg.specs.Bytes.{IsBytes};
+ghost use Rattle.munge_types.specs.Bytes.{IsBytes};
 ghost use Rattle.wire_msg.specs.Fits.{IsMessage};
 ghost use Rattle.wire_msg.specs.Frame.{BeginsFrame, IsFrame, IsNoFrame, IsUnfinished, LeadsToFrame};
 ghost use Rattle.wire_msg.specs.FrameHead.{AllowsSize, message_head, side_of_kind};

@@ -3,7 +3,7 @@
 ghost use Rattle.std.specs.Prelude.{◌≡◌, ◌+◌, ◌≤◌, ◌++◌, length, take, drop};
 ghost use Rattle.std.specs.Int.{w32, from_be_bytes};
 ghost use Rattle.wire_msg.specs.Begun.{IsReplySize, fixed_size};
-ghost use Rattle.wire_msg.specs.Bytes.{IsBytes};
+ghost use Rattle.munge_types.specs.Bytes.{IsBytes};
 ghost use Rattle.wire_msg.specs.Fits.{FitsAsk, FitsContent, FitsDecodeSaid, IsMessage};
 ghost use Rattle.wire_msg.specs.FrameHead.{AllowsSize, asked_size, content_size, reply_size, side_of_kind};
 ghost use Rattle.wire_msg.specs.Spelling.{ask_head, body_of, content_bytes, content_head, fields_of, kind_of, reply_head};
