@@ -1,0 +1,3 @@
+pub mod OuterPart
+pub mod OuterRules
+pub mod RefusedText
