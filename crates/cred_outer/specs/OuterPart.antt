@@ -1,5 +1,5 @@
 -- What stands in a credential's body before its MAC.
-use Rattle.std.specs.Prelude.{ℕ, List, [], ◌∷◌, ◌++◌}
+use Rattle.std.specs.Prelude.{ℕ, ◌+◌, List, [], ◌∷◌, ◌++◌}
 use Rattle.munge_types.specs.Algorithms.{cipher_number, mac_number}
 use Rattle.munge_types.specs.declared.algorithms.Cipher.{Cipher}
 use Rattle.munge_types.specs.declared.algorithms.Cipher.TheVariants as cipher
@@ -35,3 +35,7 @@ outer_head cipher kind =
 -- the head, and behind it the initial vector
 abbrev pub outer_part : Cipher → MacKind → (vector : List ℕ) → List ℕ
 outer_part cipher kind vector = outer_head cipher kind ++ vector
+
+-- its bytes
+abbrev pub outer_size : Cipher → ℕ
+outer_size cipher = head_size + vector_size cipher

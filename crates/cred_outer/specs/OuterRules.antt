@@ -3,7 +3,7 @@ use Rattle.std.specs.Prelude.{ℕ, ◌+◌, ◌-◌, ◌%◌, Bool, true, false,
 use Rattle.std.specs.declared.option.Option.{Option}
 use Rattle.std.specs.declared.option.Option.TheVariants.{None, Some}
 use Rattle.munge_types.specs.Algorithms.{cipher_number, mac_number, mac_size}
-use Rattle.munge_types.specs.declared.algorithms.Cipher.TheVariants as cipher
+use Rattle.munge_types.specs.declared.algorithms.Cipher.TheVariants as ciphers
 use Rattle.munge_types.specs.declared.algorithms.MacKind.TheVariants.{Sha1, Sha256, Sha512}
 use Rattle.munge_types.specs.declared.status.Status.{Status}
 use Rattle.munge_types.specs.declared.status.Status.TheVariants.{BadCredential, BadVersion, BadCipher, BadMac, BadCompression, BadRealm}
@@ -35,8 +35,8 @@ version_rule (number ∷ bytes) = unless (nat_eq number version) BadVersion
 -- a cipher has this number
 abbrev pub is_cipher : ℕ → Bool
 is_cipher number =
-    nat_eq number (cipher_number cipher.None) || (nat_eq number (cipher_number cipher.Aes128)
-    || nat_eq number (cipher_number cipher.Aes256))
+    nat_eq number (cipher_number ciphers.None) || (nat_eq number (cipher_number ciphers.Aes128)
+    || nat_eq number (cipher_number ciphers.Aes256))
 
 -- 3: there is a whole head, and its cipher is none, AES-128 or AES-256
 abbrev pub cipher_rule : List ℕ → Option Status
@@ -53,7 +53,7 @@ is_mac number =
 -- AES-256 with SHA-1: the cipher's key has 32 bytes, and SHA-1 gives 20
 abbrev pub key_too_long : (cipher kind : ℕ) → Bool
 key_too_long cipher kind =
-    nat_eq cipher (cipher_number cipher.Aes256) && nat_eq kind (mac_number Sha1)
+    nat_eq cipher (cipher_number ciphers.Aes256) && nat_eq kind (mac_number Sha1)
 
 -- 4: the MAC is one with SHA-1, SHA-256 or SHA-512, long enough for the cipher's key
 abbrev pub mac_rule : List ℕ → Option Status
@@ -71,9 +71,9 @@ realm_rule body = unless (nat_eq (realm_size_in body) realm_size) BadRealm
 -- the bytes of the initial vector of the cipher of this number
 abbrev pub size_of_vector : ℕ → ℕ
 size_of_vector number =
-    cond (nat_eq number (cipher_number cipher.None)) (vector_size cipher.None)
-    (cond (nat_eq number (cipher_number cipher.Aes128)) (vector_size cipher.Aes128)
-    (vector_size cipher.Aes256))
+    cond (nat_eq number (cipher_number ciphers.None)) (vector_size ciphers.None)
+    (cond (nat_eq number (cipher_number ciphers.Aes128)) (vector_size ciphers.Aes128)
+    (vector_size ciphers.Aes256))
 
 -- the bytes of the MAC of this number
 abbrev pub size_of_mac : ℕ → ℕ
@@ -89,7 +89,7 @@ sealed_at body = head_size + size_of_vector (cipher_in body) + size_of_mac (mac_
 -- whole blocks of AES (FIPS 197), at least one
 abbrev pub is_sealed_size : (cipher size : ℕ) → Bool
 is_sealed_size cipher size =
-    nat_eq cipher (cipher_number cipher.None) || (nat_lt 0 size && nat_eq (size % 16) 0)
+    nat_eq cipher (cipher_number ciphers.None) || (nat_lt 0 size && nat_eq (size % 16) 0)
 
 -- 7: initial vector and MAC fit in the body, and what is behind them may be a sealed part
 abbrev pub size_rule : List ℕ → Option Status

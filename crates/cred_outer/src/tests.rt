@@ -1,0 +1,1 @@
+//! Bodies by worked values.
