@@ -10,3 +10,11 @@ pub record AreParts (cipher : Cipher) (kind : MacKind) (vector mac rest body : L
   pub vector_fits : length vector ≡ vector_size cipher
   pub mac_fits : length mac ≡ mac_size kind
   pub whole : body ≡ outer_part cipher kind vector ++ (mac ++ rest)
+
+-- the parts of two cuts are the same
+pub record SameParts (c d : Cipher) (k l : MacKind) (v w m n r s : List ℕ) : Type 0 where
+  pub cipher : c ≡ d
+  pub kind : k ≡ l
+  pub vector : v ≡ w
+  pub mac : m ≡ n
+  pub rest : r ≡ s

@@ -1,6 +1,7 @@
 //! The outside of a credential's body: the outer part, and the decode rules on it.
 #![tactic(auto)]
 
+pub mod laws;
 mod outer;
 mod reading;
 mod refused;
