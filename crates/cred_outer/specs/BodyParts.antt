@@ -6,7 +6,8 @@ use Rattle.munge_types.specs.declared.algorithms.MacKind.{MacKind}
 use Rattle.cred_outer.specs.OuterPart.{outer_part, vector_size}
 
 -- outer part, MAC and the rest, where initial vector and MAC have their sizes
-pub record AreParts (cipher : Cipher) (kind : MacKind) (vector mac rest body : List ℕ) : Type 0 where
+pub record AreParts
+    (cipher : Cipher) (kind : MacKind) (vector mac rest body : List ℕ) : Type 0 where
   pub vector_fits : length vector ≡ vector_size cipher
   pub mac_fits : length mac ≡ mac_size kind
   pub whole : body ≡ outer_part cipher kind vector ++ (mac ++ rest)

@@ -85,8 +85,8 @@ size_of_mac number =
 abbrev pub sealed_at : List ℕ → ℕ
 sealed_at body = head_size + size_of_vector (cipher_in body) + size_of_mac (mac_in body)
 
--- a sealed part may have this many bytes under the cipher of this number: without a cipher any, else
--- whole blocks of AES (FIPS 197), at least one
+-- a sealed part may have this many bytes under the cipher of this number: any without a cipher,
+-- else whole blocks of AES (FIPS 197), at least one
 abbrev pub is_sealed_size : (cipher size : ℕ) → Bool
 is_sealed_size cipher size =
     nat_eq cipher (cipher_number ciphers.None) || (nat_lt 0 size && nat_eq (size % 16) 0)
