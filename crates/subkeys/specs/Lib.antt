@@ -1,3 +1,4 @@
+pub mod DataKey
 pub mod KeyRefused
 pub mod Prepared
 pub mod Subkeys

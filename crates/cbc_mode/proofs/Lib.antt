@@ -1,0 +1,3 @@
+mod Xor
+mod Chains
+mod Pads

@@ -1,0 +1,7 @@
+use Rattle.std.proofs.Common.{◌*◌}
+use Rattle.aes_block.specs.DataKey.{key_of}
+use Rattle.cbc_mode.proofs.Chains.{IsOpenedUpTo}
+use Rattle.cbc_mode.proofs.opening.open_in_place.Given as goal
+
+abbrev pub invariant-loop-number : goal.invariant-loop-number
+invariant-loop-number l = IsOpenedUpTo (key_of l.key) l.iv l.initial.buf l.buf l.before (16 * l.number)
