@@ -1,3 +1,4 @@
+pub mod Bytes
 pub mod Differences
 pub mod Keyed
 pub mod Sizes
