@@ -1,12 +1,10 @@
 -- What the words of the key expansion are.
-use Rattle.std.proofs.Common.{◌≡◌, ◌≢◌, ℕ, ◌/◌, ◌%◌, ◌<◌, ◌≤◌, suc, List, [], ◌∷◌, ◌++◌, map, get_or, refl, ap, ◌∙◌, arith}
-use Rattle.std.proofs.lemmas.Bool.Decides.{nat_tests}
+use Rattle.std.proofs.Common.{◌≡◌, ℕ, ◌<◌, suc, List, [], ◌∷◌, ◌++◌, map, get_or, refl, ap, ◌∙◌, arith}
 use Rattle.std.proofs.lemmas.List.FromFn.{get_or-map-range_with_len}
 use Rattle.std.specs.List.{range_with_len}
 use Rattle.aes_block.specs.Field.{bit, xtimes}
-use Rattle.aes_block.specs.State.{Column, add_columns}
-use Rattle.aes_block.specs.SubBytes.{sub_word}
-use Rattle.aes_block.specs.KeyExpansion.{rot_word, power_of_x, rcon, added_word, next_word, expanded_by}
+use Rattle.aes_block.specs.State.{Column}
+use Rattle.aes_block.specs.KeyExpansion.{power_of_x, next_word, expanded_by}
 use Rattle.aes_block.specs.declared.key_expansion.TheConstants.{POWERS_OF_X}
 
 power_entries : POWERS_OF_X ≡ map power_of_x (range_with_len 0 10)

@@ -1,9 +1,9 @@
 -- No two blocks have one encryption: each step of a round is undone by one on bytes.
-use Rattle.std.proofs.Common.{◌≡◌, ℕ, zero, suc, ◌+◌, ◌*◌, ◌-◌, ◌/◌, ◌<◌, Bool, true, false, cond, List, All, length, get_or, sym, ap, ◌∙◌, inl, inr, subst, arith}
+use Rattle.std.proofs.Common.{◌≡◌, ℕ, zero, suc, ◌+◌, ◌*◌, ◌-◌, ◌/◌, ◌<◌, Bool, true, false, cond, List, [], ◌∷◌, ◌++◌, All, length, get_or, refl, sym, ap, ◌∙◌, inl, inr, subst, arith}
 use Rattle.std.proofs.lemmas.Bool.{cases_lt}
 use Rattle.std.proofs.lemmas.List.{get_or_past}
-use Rattle.std.proofs.lemmas.List.Elements.{All-get_or, All-from_get_or, All-push, All-map}
-use Rattle.aes_block.specs.State.{Column, StateArray, IsBlock, column_at, state_of, block_of}
+use Rattle.std.proofs.lemmas.List.Elements.{All-nil, All-cons, All-get_or, All-from_get_or, All-push, All-map}
+use Rattle.aes_block.specs.State.{Column, StateArray, IsBlock, column_at, column_bytes, state_of, block_of}
 use Rattle.aes_block.specs.SubBytes.{sub_word, sub_bytes}
 use Rattle.aes_block.specs.Rounds.{diagonal, shift_rows, mix_columns, add_round_key, round, last_round}
 use Rattle.aes_block.specs.KeyExpansion.{zeros, word_at, rot_word, power_of_x, rcon, added_word, next_word, key_words, expanded_by, expanded_key, round_key, round_count}
@@ -259,3 +259,46 @@ cipher_one_to_one key a b bytes ha hb same =
     encrypted_one_to_one (expanded_key key) (All-expanded_key key bytes) (round_count key) (state_of a) (state_of b)
     (IsByteState-state_of a ha.bytes) (IsByteState-state_of b hb.bytes) (ap state_of same) in
     sym (block_of-state_of a ha.sixteen) ∙ ap block_of states ∙ block_of-state_of b hb.sixteen
+
+-- ---- a block is encrypted to a block
+
+IsByteState-rounds : (words : List Column) → All IsBytes words → (first n : ℕ) (s : StateArray) → IsByteState s → IsByteState (rounds words first n s)
+unfolding rounds
+IsByteState-rounds words bytes first zero s h = h
+IsByteState-rounds words bytes first (suc n) s h =
+    let key : StateArray = round_key words first in
+    IsByteState-rounds words bytes (first + 1) n (round s key) (IsByteState-round s key h (IsByteState-round_key words first bytes))
+
+IsByteState-encrypted : (words : List Column) → All IsBytes words → (count : ℕ) (s : StateArray) → IsByteState s → IsByteState (encrypted words count s)
+unfolding encrypted finished last_round
+IsByteState-encrypted words bytes count s h =
+    let key : StateArray = round_key words 0 in
+    let before : StateArray = rounds words 1 (count - 1) (add_round_key s key) in
+    let k : IsByteState key = IsByteState-round_key words 0 bytes in
+    let whole : IsByteState before = IsByteState-rounds words bytes 1 (count - 1) (add_round_key s key) (IsByteState-add_round_key s key h k) in
+    IsByteState-add_round_key _ _ (IsByteState-shifted before whole) (IsByteState-round_key words (1 + (count - 1)) bytes)
+
+All-column_bytes : (c : Column) (rest : List ℕ) → IsBytes c → All IsByte rest → All IsByte (c.row0 ∷ c.row1 ∷ c.row2 ∷ c.row3 ∷ rest)
+All-column_bytes c rest h all =
+    All-cons IsByte c.row0 (c.row1 ∷ c.row2 ∷ c.row3 ∷ rest) h.row0 (All-cons IsByte c.row1 (c.row2 ∷ c.row3 ∷ rest) h.row1
+    (All-cons IsByte c.row2 (c.row3 ∷ rest) h.row2 (All-cons IsByte c.row3 rest h.row3 all)))
+
+IsBlock-block_of : (s : StateArray) → IsByteState s → IsBlock (block_of s)
+IsBlock-block_of s h = record {
+  sixteen = refl;
+  bytes =
+      let last : List ℕ = column_bytes s.column3 in
+      let third : List ℕ = column_bytes s.column2 ++ last in
+      let second : List ℕ = column_bytes s.column1 ++ third in
+      All-column_bytes s.column0 second h.column0 (All-column_bytes s.column1 third h.column1
+      (All-column_bytes s.column2 last h.column2 (All-column_bytes s.column3 [] h.column3 (All-nil IsByte))));
+}
+
+pub length-cipher : (key block : List ℕ) → length (cipher key block) ≡ 16
+unfolding cipher
+length-cipher key block = refl
+
+pub IsBlock-cipher : (key block : List ℕ) → All IsByte key → IsBlock block → IsBlock (cipher key block)
+unfolding cipher
+IsBlock-cipher key block bytes h =
+    IsBlock-block_of _ (IsByteState-encrypted (expanded_key key) (All-expanded_key key bytes) (round_count key) (state_of block) (IsByteState-state_of block h.bytes))

@@ -1,6 +1,6 @@
 //! Keys of 32 bytes.
 
-ghost use Rattle.std.specs.Prelude.{◌≡◌, ℕ, List};
+ghost use Rattle.std.specs.Prelude.{◌≡◌, ◌<◌, ℕ, List, All};
 ghost use Rattle.aes_block.specs.State.{IsBlock};
 ghost use Rattle.aes_block.specs.Cipher.{cipher};
 
@@ -41,6 +41,13 @@ impl Key256 {
         let mut unmixed = [Word::new(0); 60];
         inverse_cipher::unmix(&words, &mut unmixed);
         Key256 { words, unmixed }
+    }
+
+    /// Does nothing: the key is made of bytes.
+    pub(crate) fn is_bytes(&self)
+        ensures { All (λ b. b < 256) self.now }
+    {
+        let _ = &self.words;
     }
 
     /// Encrypts a block in place (5.1).

@@ -12,6 +12,7 @@ mod inverse_tables;
 mod key128;
 mod key256;
 mod key_expansion;
+pub mod laws;
 mod s_box;
 mod state;
 mod tables;

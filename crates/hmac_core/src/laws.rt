@@ -11,8 +11,7 @@ pub fn mac_has_its_size()
         → length (hmac kind key message) ≡ mac_size kind }
 {}
 
-/// Each MAC is bytes, whatever the key and the message are.
+/// Each MAC is made of bytes, whatever its key and its message are.
 pub fn mac_is_bytes()
-    ensures { (kind : MacKind) (key message : List ℕ)
-        → All (λ b. b < 256) (hmac kind key message) }
+    ensures { (kind : MacKind) (key message : List ℕ) → All (λ b. b < 256) (hmac kind key message) }
 {}
