@@ -3,3 +3,4 @@ pub mod Credential
 pub mod OpenRefused
 pub mod OpeningRules
 pub mod RefusedText
+pub mod Unsealed
