@@ -1,0 +1,2 @@
+pub mod DataKeys
+pub mod Sizes

@@ -5,5 +5,7 @@ use Rattle.subkeys.specs.declared.subkeys.KeyRefused.{KeyRefused}
 use Rattle.subkeys.specs.declared.subkeys.KeyRefused.TheVariants.{TooShort, TooLong}
 
 abbrev pub refusal_text : KeyRefused → List ℕ
-refusal_text (TooShort length) = codes "a key file of " ++ decimal length ++ codes " bytes is too short"
-refusal_text (TooLong length) = codes "a key file of " ++ decimal length ++ codes " bytes is too long"
+refusal_text (TooShort length) =
+    codes "a key file of " ++ decimal length ++ codes " bytes is too short"
+refusal_text (TooLong length) =
+    codes "a key file of " ++ decimal length ++ codes " bytes is too long"

@@ -2,7 +2,8 @@
 use Rattle.std.specs.Prelude.{◌≡◌, ℕ, List, [], ◌∷◌, ◌++◌}
 use Rattle.sha1.specs.Sha1.{sha1}
 
--- the subkey that data keys are derived from: SHA-1 of the key file's bytes and the byte 31 (hexadecimal)
+-- the subkey that data keys are derived from: SHA-1 of the key file's bytes and the byte 31
+-- (hexadecimal)
 abbrev pub cipher_subkey : List ℕ → List ℕ
 cipher_subkey key = sha1 (key ++ 0x31 ∷ [])
 

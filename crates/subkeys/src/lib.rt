@@ -1,6 +1,8 @@
-//! The subkeys that a key file stands for.
+//! The subkeys that a key file stands for, with HMAC prepared under each: for the MACs of
+//! credentials, and for the keys of their ciphers. No call takes memory.
 #![tactic(auto)]
 
+pub mod laws;
 mod prepared;
 mod subkeys;
 #[cfg(test)]

@@ -1,14 +1,20 @@
 //! The two subkeys that a key file stands for.
 
-ghost use Rattle.std.specs.Prelude.{◌≡◌, ◌<◌, ◌≤◌, ◌↔◌, ◌++◌, ◌∷◌, [], length, Some, IfOk, IsOk, IsErrOf};
+ghost use Rattle.std.specs.Prelude.{◌≡◌, ◌≢◌, ◌<◌, ◌≤◌, ◌↔◌, ℕ, List, ◌++◌, ◌∷◌, []};
+ghost use Rattle.std.specs.Prelude.{length, Some, IfOk, IsOk, IsErrOf};
 ghost use Rattle.sha1.specs.Sha1.{sha1};
+ghost use Rattle.aes_block.specs.DataKey.{key_of};
 ghost use Rattle.hmac_core.specs.Absorbed.{Absorbed};
+ghost use Rattle.hmac_core.specs.Hmac.{hmac};
+ghost use Rattle.subkeys.specs.DataKey.{data_key_under};
 ghost use Rattle.subkeys.specs.KeyRefused.{refusal_text};
 ghost use Rattle.subkeys.specs.Subkeys.{IsOf};
 
 use crate::prepared::Prepared;
+use aes_block::{DataKey, Key128, Key256};
 use hmac_core::Hmac;
-use munge_types::MacKind;
+use hmac_core::laws::mac_has_its_size;
+use munge_types::{Cipher, MacBytes, MacKind};
 use sha1::Sha1;
 use std::error::Error;
 use std::fmt;
@@ -25,19 +31,22 @@ const LONGEST: usize = 1024;
 pub struct Subkeys {
     cipher: [u8; 20],
     mac: [u8; 20],
+    /// HMAC under the cipher's subkey.
+    data_keys: Prepared,
     /// HMAC under the subkey of the MAC.
-    prepared: Prepared,
+    macs: Prepared,
 }
 
 impl Model for Subkeys {
     ghost use Rattle.subkeys.specs.Subkeys.{SubkeyPair};
-    ghost use Rattle.subkeys.specs.Prepared.{IsPrepared};
+    ghost use Rattle.subkeys.specs.Prepared.{IsKept};
 
     ghost Value = { SubkeyPair };
 
     ghost view = { λ subkeys. record { cipher = subkeys.cipher; mac = subkeys.mac } };
 
-    ghost invariant = { λ subkeys. IsPrepared subkeys.prepared subkeys.mac };
+    ghost invariant = { λ subkeys. IsKept (record { cipher = subkeys.cipher; mac = subkeys.mac })
+        subkeys.data_keys subkeys.macs };
 }
 
 /// Why the bytes of a key file are refused, with how many they are.
@@ -78,12 +87,21 @@ impl Subkeys {
         if key.len() > LONGEST {
             return Err(KeyRefused::TooLong(key.len() as u64));
         }
+        let cipher = derived(key, 0x31);
         let mac = derived(key, 0x32);
         Ok(Subkeys {
-            cipher: derived(key, 0x31),
+            cipher,
             mac,
-            prepared: Prepared::under(&mac),
+            data_keys: Prepared::under(&cipher),
+            macs: Prepared::under(&mac),
         })
+    }
+
+    /// Does nothing: the subkeys are those of some key file.
+    pub fn are_of_a_key(&self)
+        ensures { ∥ ((key : List ℕ) × IsOf self.now key) ∥₁ }
+    {
+        let _ = &self.mac;
     }
 
     /// The subkey of the MAC.
@@ -98,7 +116,38 @@ impl Subkeys {
     pub fn mac_state(&self, kind: MacKind) -> Hmac
         ensures { Absorbed result kind self.now.mac [] }
     {
-        self.prepared.with(kind)
+        self.macs.with(kind)
+    }
+
+    /// The key of a credential with this cipher and this MAC, whose bytes are given: the first of
+    /// HMAC under the cipher's subkey, as many as the cipher's key has.
+    pub fn data_key(&self, cipher: Cipher, kind: MacKind, mac: &[u8]) -> DataKey
+        requires some { cipher ≢ Cipher.None }
+        requires long_enough { ¬ ((cipher ≡ Cipher.Aes256) × (kind ≡ MacKind.Sha1)) }
+        ensures { key_of result ≡ data_key_under cipher kind self.now.cipher mac.now }
+    {
+        let derived = self.under_cipher(kind, mac);
+        mac_has_its_size();
+        match cipher {
+            Cipher::None => unreachable!(),
+            Cipher::Aes128 => match derived.bytes().first_chunk() {
+                Some(key) => DataKey::Aes128(Key128::new(key)),
+                None => unreachable!(),
+            },
+            Cipher::Aes256 => match derived.bytes().first_chunk() {
+                Some(key) => DataKey::Aes256(Key256::new(key)),
+                None => unreachable!(),
+            },
+        }
+    }
+
+    /// HMAC under the cipher's subkey.
+    fn under_cipher(&self, kind: MacKind, message: &[u8]) -> MacBytes
+        ensures { result ≡ hmac kind self.now.cipher message.now }
+    {
+        let mut state = self.data_keys.with(kind);
+        state.update(message);
+        state.finish()
     }
 }
 
