@@ -15,7 +15,8 @@ use cbc_mode::laws::{chaining_is_one_to_one, padding_is_one_to_one};
 use cred_armor::laws::text_spells_one_body;
 use cred_inner::laws::inner_part_has_one_content;
 use cred_outer::laws::body_has_its_parts_once;
-use hmac_core::laws::{mac_has_its_size, mac_is_bytes};
+use hmac_core::laws::mac_has_its_size;
+use subkeys::laws::data_key_is_bytes;
 
 /// Under a key, a sealed part has one inner part at most.
 pub fn sealed_part_has_one_inner_part()
@@ -24,7 +25,7 @@ pub fn sealed_part_has_one_inner_part()
         → Seals key cipher kind vector mac inner sealed
         → Seals key cipher kind vector mac inner' sealed → inner ≡ inner' }
 {
-    mac_is_bytes();
+    data_key_is_bytes();
     padding_is_one_to_one();
     chaining_is_one_to_one();
 }

@@ -60,7 +60,8 @@ pub(crate) fn unseal(subkeys: &Subkeys, body: &mut [u8]) -> Result<Unsealed, Out
 
     let (outside, sealed) = body.split_at_mut(at);
     let (front, mac) = outside.split_at(mac_at);
-    let decrypted = decrypt(subkeys, cipher, kind, &front[vector_at..], mac, sealed);
+    let (_, iv) = front.split_at(vector_at);
+    let decrypted = decrypt(subkeys, cipher, kind, iv, mac, sealed);
 
     // The MAC is made even where the padding is wrong, so that the two take about the same time.
     let plain = &sealed[..decrypted.unwrap_or(sealed.len())];
@@ -106,6 +107,9 @@ fn decrypt(
     requires blocks { is_sealed_size (cipher_number cipher) (length sealed.old) ≡ true }
     ensures size { length sealed.new ≡ length sealed.old }
     ensures within { IfSome result (λ size. size ≤ length sealed.new) }
+    // Its caller cannot see this of what it cuts from a body.
+    ensures vector_bytes { IsBytes iv.now }
+    ensures bytes { IsBytes sealed.new }
     ensures plain { (key : List ℕ) → IsOf subkeys.now key → IfSome result (λ size.
         Seals key cipher kind iv.now mac.now (take size sealed.new) sealed.old) }
     ensures none { (key : List ℕ) → IsOf subkeys.now key → IfNone result ((inner : List ℕ)

@@ -30,5 +30,3 @@ returns-clause-none c =
     (record { only = rw vector at c.open_in_place.ensures.only; blocks = c.padding_is_one_to_one.ensures.blocks; unpadded = unpadded }))
     c.unpad.ensures.none
 
-pub data_key-requires-clause-never : goal.data_key-requires-clause-never
-data_key-requires-clause-never c = ?
