@@ -89,7 +89,7 @@ refuses_forged laws key text body vector mac rest plain made cipher kind spells 
     (λ c k v inner is.
     let cut = cut_as laws key cipher c kind k vector mac rest v inner body is_decrypted.parts is in
     let same : inner ≡ plain = laws.inner_once key vector mac inner plain rest cipher kind is_decrypted.parts.vector_fits
-        is_decrypted.vector_bytes cut.inner_bytes is_decrypted.plain_bytes cut.seals is_decrypted.seals in
+    is_decrypted.vector_bytes cut.inner_bytes is_decrypted.plain_bytes cut.seals is_decrypted.seals in
     other (is_decrypted.made_is ∙ (ap (λ (l : List ℕ). mac_of key cipher kind vector l) (sym same) ∙ cut.mac_is)))
 
 -- the MAC that it should have
@@ -135,8 +135,8 @@ payload_last whole at content laid_out =
     let head : List ℕ = content.salt ++ (4 ∷ (content.addr ++ numbers content)) in
     let laid : inner_part content ≡ head ++ content.payload = simp append_assoc in
     let split : whole ≡ (take at whole ++ head) ++ content.payload =
-        sym (take-append-drop at whole)
-        ∙ (ap (λ (l : List ℕ). take at whole ++ l) (sym (take_rest whole at) ∙ (laid_out ∙ laid)) ∙ sym (append_assoc (take at whole) head content.payload)) in
+    sym (take-append-drop at whole)
+    ∙ (ap (λ (l : List ℕ). take at whole ++ l) (sym (take_rest whole at) ∙ (laid_out ∙ laid)) ∙ sym (append_assoc (take at whole) head content.payload)) in
     end_rest whole content.payload (take at whole ++ head) split
 
 -- an unsealed body whose inner part is that of a content, with the payload as it is kept

@@ -22,7 +22,7 @@ pub data Refuses (key text : List ℕ) : (rule : ℕ) → Status → Type 0 wher
   -- 8: no inner part gives the body
   unsealed : (body : List ℕ) → Spells text body → first_broken (outer_rules body) ≡ None
       → ((cipher : Cipher) (kind : MacKind) (vector inner : List ℕ)
-          → IsBody key cipher kind vector inner body → ⊥)
+      → IsBody key cipher kind vector inner body → ⊥)
       → Refuses key text 8 Invalid
   -- 9: what gives the body is the inner part of no content
   empty : (body : List ℕ) → Spells text body → first_broken (outer_rules body) ≡ None

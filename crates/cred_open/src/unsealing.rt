@@ -23,6 +23,12 @@ use hmac_core::laws::mac_has_its_size;
 use munge_types::{Cipher, MacBytes, MacKind, Rule, Status};
 use subkeys::Subkeys;
 
+/// The answer to a body that no inner part gives, whether its padding or its MAC is wrong.
+const INVALID: OuterRefused = OuterRefused {
+    rule: Rule::SEAL,
+    status: Status::Invalid,
+};
+
 /// What a body was sealed by, and where its inner part now stands in it.
 #[derive(Clone, Copy, Debug)]
 pub(crate) struct Unsealed {
@@ -68,28 +74,19 @@ pub(crate) fn unseal(subkeys: &Subkeys, body: &mut [u8]) -> Result<Unsealed, Out
     let made = mac_of(subkeys, kind, front, plain);
     let genuine = equal(&made, mac);
     let Some(size) = decrypted else {
-        return invalid();
+        return Err(INVALID);
     };
-    if !genuine {
-        return invalid();
+    if genuine {
+        Ok(Unsealed {
+            cipher,
+            kind,
+            mac: made,
+            at,
+            size,
+        })
+    } else {
+        Err(INVALID)
     }
-    Ok(Unsealed {
-        cipher,
-        kind,
-        mac: made,
-        at,
-        size,
-    })
-}
-
-/// The answer to a body that no inner part gives.
-fn invalid() -> Result<Unsealed, OuterRefused>
-    ensures { result ≡ Err (record { rule = 8; status = Status.Invalid }) }
-{
-    Err(OuterRefused {
-        rule: Rule::SEAL,
-        status: Status::Invalid,
-    })
 }
 
 /// Decrypts a sealed part where it stands: how many bytes at its front are its inner part; and None

@@ -29,4 +29,3 @@ returns-clause-none c =
     other of c.data_key.ensures
     (record { only = rw vector at c.open_in_place.ensures.only; blocks = c.padding_is_one_to_one.ensures.blocks; unpadded = unpadded }))
     c.unpad.ensures.none
-

@@ -29,13 +29,12 @@ returns-in_default-clause-refused c =
     c.in_ok-outer.ensures.parts c.in_ok-outer.ensures.front
     c.split_at_mut-outside.ensures.front c.split_at_mut-outside.ensures.back
     c.split_at.ensures.front c.split_at.ensures.back c.split_at-2.ensures.back in
-    rw c.invalid.ensures
-    (refuses_unpadded laws key text c.args.body.now outer.iv.now outer.mac.now outer.rest.now outer.cipher outer.kind spells
+    refuses_unpadded laws key text c.args.body.now outer.iv.now outer.mac.now outer.rest.now outer.cipher outer.kind spells
     c.in_ok-outer.ensures.unbroken c.in_ok-outer.ensures.parts
-    (rw (cut.vector_is, cut.mac_is, cut.rest_is) at (c.in_default.ensures.none key of)))
+    (rw (cut.vector_is, cut.mac_is, cut.rest_is) at (c.in_default.ensures.none key of))
 
-pub returns-then-not-genuine-clause-refused : goal.returns-then-not-genuine-clause-refused
-returns-then-not-genuine-clause-refused c =
+pub returns-else-genuine-clause-refused : goal.returns-else-genuine-clause-refused
+returns-else-genuine-clause-refused c =
     λ key text of spells.
     let laws : BodyLaws = record {
       mac_sizes = c.mac_has_its_size.ensures;
@@ -56,12 +55,11 @@ returns-then-not-genuine-clause-refused c =
     (front_bytes c.in-Some.size c.decrypt-decrypted.new.sealed c.decrypt-decrypted.ensures.bytes)
     (c.in-Some.ensures.plain key of) c.mac_of-made.ensures
     (ap (λ n. take n c.decrypt-decrypted.new.sealed) size_is) of.mac_is in
-    rw c.invalid-then-not-genuine.ensures
-    (refuses_forged laws key text c.args.body.now outer.iv.now outer.mac.now outer.rest.now plain c.mac_of-made.result outer.cipher outer.kind spells made
-    (λ same. both_ways c.equal-genuine.result c.if-not-genuine.true (c.equal-genuine.ensures.1 (same ∙ sym cut.mac_is))))
+    refuses_forged laws key text c.args.body.now outer.iv.now outer.mac.now outer.rest.now plain c.mac_of-made.result outer.cipher outer.kind spells made
+    (λ same. both_ways c.equal-genuine.result c.if-genuine.false (c.equal-genuine.ensures.1 (same ∙ sym cut.mac_is)))
 
-pub returns-clause-unsealed : goal.returns-clause-unsealed
-returns-clause-unsealed c =
+pub returns-then-genuine-clause-unsealed : goal.returns-then-genuine-clause-unsealed
+returns-then-genuine-clause-unsealed c =
     λ key of.
     let outer = c.in_ok-outer.outer in
     let cut = pieces outer.cipher outer.kind outer.iv.now outer.mac.now outer.rest.now c.args.body.now outer.front.now
@@ -79,4 +77,4 @@ returns-clause-unsealed c =
     (ap (λ n. take n c.decrypt-decrypted.new.sealed) size_is) of.mac_is in
     rw (sym c.split_at_mut-outside.ensures.front_len, drop-append_seam c.split_at_mut-outside.result.0.now c.decrypt-decrypted.new.sealed)
     (unseals key c.args.body.now outer.iv.now outer.mac.now outer.rest.now plain c.mac_of-made.result outer.cipher outer.kind made
-    (c.equal-genuine.ensures.0 c.if-not-genuine.false ∙ cut.mac_is))
+    (c.equal-genuine.ensures.0 c.if-genuine.true ∙ cut.mac_is))
