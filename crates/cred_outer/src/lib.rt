@@ -10,7 +10,7 @@ mod rules;
 mod tests;
 mod writing;
 
-pub use outer::{Outer, outer_size};
+pub use outer::{Outer, outer_size, vector_size};
 pub use reading::read_outer;
 pub use refused::OuterRefused;
 pub use writing::{outer_head, write_outer};

@@ -51,7 +51,7 @@ pub fn outer_size(cipher: Cipher) -> usize
 }
 
 /// The bytes of the initial vector: 0 without a cipher, else 16.
-pub(crate) fn vector_size(cipher: Cipher) -> usize
+pub fn vector_size(cipher: Cipher) -> usize
     ensures { result ≡ vector_size cipher }
 {
     match cipher {
