@@ -1,3 +1,4 @@
+pub mod InnerBytes
 pub mod InnerFields
 pub mod InnerReading
 pub mod InnerWriting

@@ -1,6 +1,7 @@
 //! Laws of the inner part. Each function does nothing: what it ensures is the law.
 
 ghost use Rattle.std.specs.Prelude.{◌≡◌, ◌+◌, length};
+ghost use Rattle.cred_inner.specs.Bytes.{IsBytes};
 ghost use Rattle.cred_inner.specs.InnerPart.{Content, IsContent, inner_part};
 
 /// An inner part is that of one content at most.
@@ -13,4 +14,9 @@ pub fn inner_part_has_one_content()
 pub fn inner_part_size()
     ensures { (content : Content) → IsContent content
         → length (inner_part content) ≡ 41 + length content.payload }
+{}
+
+/// An inner part is bytes.
+pub fn inner_part_is_bytes()
+    ensures { (content : Content) → IsContent content → IsBytes (inner_part content) }
 {}

@@ -1,5 +1,4 @@
 pub mod Bodies
-pub mod Numbers
 pub mod Once
+pub mod Decryption
 pub mod OpensOrRefuses
-pub mod Parts

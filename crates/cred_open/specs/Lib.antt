@@ -2,5 +2,5 @@ pub mod Body
 pub mod Credential
 pub mod OpenRefused
 pub mod OpeningRules
-pub mod OuterPart
 pub mod RefusedText
+pub mod Unsealed

@@ -6,10 +6,10 @@ pub mod laws;
 mod mac;
 mod opened;
 mod opening;
-mod outer;
 #[cfg(test)]
 mod tests;
+mod unsealing;
 
+pub use cred_outer::OuterRefused;
 pub use opened::Opened;
 pub use opening::{OpenRefused, open_text};
-pub use outer::OuterRefused;

@@ -7,13 +7,11 @@ ghost use Rattle.cred_open.specs.OpenRefused.{IsRefusal, WantsMemoryFor};
 ghost use Rattle.cred_open.specs.RefusedText.{refused_text};
 ghost use Rattle.subkeys.specs.Subkeys.{IsOf};
 
-use crate::mac::mac_of;
-use crate::outer::read_outer;
+use crate::unsealing::unseal;
 use crate::{Opened, OuterRefused};
 use cred_armor::{ArmorRefused, unarmor};
 use cred_inner::{Inner, read_inner};
-use hmac_core::equal;
-use munge_types::Status;
+use munge_types::{Rule, Status};
 use std::alloc::Global;
 use std::error::Error;
 use std::fmt;
@@ -53,8 +51,10 @@ pub fn open_text(alloc: Global, subkeys: &Subkeys, text: &[u8]) -> Result<Opened
     let body = match unarmor(alloc, text) {
         Ok(body) => body,
         Err(ArmorRefused::NotArmor) => {
-            let broken = OuterRefused::by(1, Status::BadCredential);
-            return Err(OpenRefused::Failed(broken));
+            return Err(OpenRefused::Failed(OuterRefused {
+                rule: Rule::TEXT,
+                status: Status::BadCredential,
+            }));
         }
         Err(ArmorRefused::NoMemory) => return Err(OpenRefused::NoMemory),
     };
@@ -64,26 +64,26 @@ pub fn open_text(alloc: Global, subkeys: &Subkeys, text: &[u8]) -> Result<Opened
     }
 }
 
-/// The credential of this body, by the rules 2 to 9.
-fn open_body(subkeys: &Subkeys, body: Vec<u8>) -> Result<Opened, OuterRefused>
+/// The credential of this body, by the rules 2 to 9. Its inner part is decrypted where it stands.
+fn open_body(subkeys: &Subkeys, mut body: Vec<u8>) -> Result<Opened, OuterRefused>
     ensures opened { (key text : List ℕ) → IsOf subkeys.now key → Spells text body.items
         → IfOk result (λ opened. Opens key text opened) }
     ensures refused { (key text : List ℕ) → IsOf subkeys.now key → Spells text body.items
         → IfErr result (λ broken. Refuses key text broken.rule broken.status) }
 {
-    let outer = read_outer(&body)?;
-    let mac = mac_of(subkeys, outer.kind, outer.front, outer.sealed);
-    if !equal(&mac, outer.mac) {
-        return Err(OuterRefused::by(8, Status::Invalid));
-    }
-    let Some(inner) = read_inner(outer.sealed) else {
-        return Err(OuterRefused::by(9, Status::BadCredential));
+    let unsealed = unseal(subkeys, &mut body)?;
+    body.truncate(unsealed.at + unsealed.size);
+    let Some(inner) = read_inner(&body[unsealed.at..]) else {
+        return Err(OuterRefused {
+            rule: Rule::CONTENT,
+            status: Status::BadCredential,
+        });
     };
     let payload_at = body.len() - inner.payload.len();
     Ok(Opened {
-        cipher: outer.cipher,
-        kind: outer.kind,
-        mac,
+        cipher: unsealed.cipher,
+        kind: unsealed.kind,
+        mac: unsealed.mac,
         head: Inner {
             payload: &[],
             ..inner

@@ -4,5 +4,4 @@ use Rattle.cred_open.proofs.opening.open_text.Goals as goal
 
 pub returns-in-Err-NotArmor-clause-refused : goal.returns-in-Err-NotArmor-clause-refused
 returns-in-Err-NotArmor-clause-refused c =
-    λ key of.
-    rw (c.by-broken.ensures.rule, c.by-broken.ensures.status) (Refuses.unspelled (c.in-Err-NotArmor.ensures.unspelled (ap Err c.in-Err-NotArmor.field-0-is)))
+    λ key of. Refuses.unspelled (c.in-Err-NotArmor.ensures.unspelled (ap Err c.in-Err-NotArmor.field-0-is))

@@ -1,0 +1,4 @@
+pub mod BodyParts
+pub mod OuterPart
+pub mod OuterRules
+pub mod RefusedText
