@@ -1,7 +1,7 @@
 //! Answering a request of either kind.
 
 ghost use Rattle.std.specs.Prelude.{◌≡◌, ℕ, ◌+◌, ◌<◌, ◌≤◌, ◌^◌, ◌++◌, List, length, IfOk, OnErr};
-ghost use Rattle.munge_types.specs.StandsFor.{StandsFor};
+ghost use Rattle.munge_types.specs.StandsFor.{Stands};
 ghost use Rattle.munge_types.specs.declared.history.Event.{Event};
 ghost use Rattle.subkeys.specs.Subkeys.{IsOf};
 ghost use Rattle.session_core.specs.AllLive.{AllLive};
@@ -41,19 +41,19 @@ pub(crate) fn make_answer<R: Replay>(
     requires fits { IsRequest (request_told request.now) }
     requires few { entries + 2 < 2 ^ 64 }
     ensures answered { (key : List ℕ) (base : List Event) (own : Own) → IsOf world.now.subkeys key
-        → StandsFor (R.floor_moment replay.old) (R.kept_pairs replay.old) (base ++ own.events)
+        → Stands (R.remembered replay.old) (base ++ own.events)
         → length own.events ≡ entries → own.place ≡ place_of dice.old
         → IfOk result (λ answer. IsAnswered key world.now.settings who (seed_of dice.old) base own moment (request_told request.now)
-        answer.reply.items answer.entries (place_of dice.new) (R.floor_moment replay.new) (R.kept_pairs replay.new)) }
+        answer.reply.items answer.entries (place_of dice.new) (R.remembered replay.new).floor (R.remembered replay.new).pairs) }
     ensures same_seed { seed_of dice.new ≡ seed_of dice.old }
     ensures given_up { (base own : List Event)
-        → StandsFor (R.floor_moment replay.old) (R.kept_pairs replay.old) (base ++ own)
-        → OnErr result (StandsFor (R.floor_moment replay.new) (R.kept_pairs replay.new) (base ++ before_answer base own moment (request_told request.now))) }
+        → Stands (R.remembered replay.old) (base ++ own)
+        → OnErr result (Stands (R.remembered replay.new) (base ++ before_answer base own moment (request_told request.now))) }
     ensures bound { IfOk result (λ answer. answer.entries ≤ entries + 2) }
     ensures live { (history : List Event)
-        → StandsFor (R.floor_moment replay.old) (R.kept_pairs replay.old) history
-        → AllLive (R.floor_moment replay.old) (R.kept_pairs replay.old)
-        → AllLive (R.floor_moment replay.new) (R.kept_pairs replay.new) }
+        → Stands (R.remembered replay.old) history
+        → AllLive (R.remembered replay.old).floor (R.remembered replay.old).pairs
+        → AllLive (R.remembered replay.new).floor (R.remembered replay.new).pairs }
 {
     match request {
         Request::Encode(body) => {

@@ -1,7 +1,7 @@
 //! Answering a decode request.
 
 ghost use Rattle.std.specs.Prelude.{◌≡◌, ℕ, ◌+◌, ◌<◌, ◌≤◌, ◌^◌, ◌++◌, List, length, IfOk, OnErr};
-ghost use Rattle.munge_types.specs.StandsFor.{StandsFor};
+ghost use Rattle.munge_types.specs.StandsFor.{Stands};
 ghost use Rattle.munge_types.specs.declared.history.Event.{Event};
 ghost use Rattle.subkeys.specs.Subkeys.{IsOf};
 ghost use Rattle.session_core.specs.AllLive.{AllLive};
@@ -30,17 +30,17 @@ pub(crate) fn decode<R: Replay>(
 ) -> Result<Answer, NoMemory>
     requires { entries + 2 < 2 ^ 64 }
     ensures decoded { (key : List ℕ) (base own : List Event) → IsOf world.now.subkeys key
-        → StandsFor (R.floor_moment replay.old) (R.kept_pairs replay.old) (base ++ own) → length own ≡ entries
+        → Stands (R.remembered replay.old) (base ++ own) → length own ≡ entries
         → IfOk result (λ answer. IsDecoded key world.now.settings who base own moment text.now answer.reply.items answer.entries
-        (R.floor_moment replay.new) (R.kept_pairs replay.new)) }
+        (R.remembered replay.new).floor (R.remembered replay.new).pairs) }
     ensures given_up { (base own : List Event)
-        → StandsFor (R.floor_moment replay.old) (R.kept_pairs replay.old) (base ++ own)
-        → OnErr result (StandsFor (R.floor_moment replay.new) (R.kept_pairs replay.new) (base ++ before_decode base own moment)) }
+        → Stands (R.remembered replay.old) (base ++ own)
+        → OnErr result (Stands (R.remembered replay.new) (base ++ before_decode base own moment)) }
     ensures bound { IfOk result (λ answer. answer.entries ≤ entries + 2) }
     ensures live { (history : List Event)
-        → StandsFor (R.floor_moment replay.old) (R.kept_pairs replay.old) history
-        → AllLive (R.floor_moment replay.old) (R.kept_pairs replay.old)
-        → AllLive (R.floor_moment replay.new) (R.kept_pairs replay.new) }
+        → Stands (R.remembered replay.old) history
+        → AllLive (R.remembered replay.old).floor (R.remembered replay.old).pairs
+        → AllLive (R.remembered replay.new).floor (R.remembered replay.new).pairs }
 {
     let entries = entries + purge_if_due(replay, moment);
     match prepare(alloc, world, who, moment, text)? {
@@ -60,10 +60,10 @@ pub(crate) fn decode<R: Replay>(
 /// events that are.
 fn purge_if_due<R: Replay>(replay: &mut R, moment: u32) -> u64
     ensures bound { result ≤ 1 }
-    ensures live { AllLive (R.floor_moment replay.old) (R.kept_pairs replay.old)
-        → AllLive (R.floor_moment replay.new) (R.kept_pairs replay.new) }
-    ensures purged { (base own : List Event) → StandsFor (R.floor_moment replay.old) (R.kept_pairs replay.old) (base ++ own)
-        → IsPurged (R.floor_moment replay.new) (R.kept_pairs replay.new) base own moment result }
+    ensures live { AllLive (R.remembered replay.old).floor (R.remembered replay.old).pairs
+        → AllLive (R.remembered replay.new).floor (R.remembered replay.new).pairs }
+    ensures purged { (base own : List Event) → Stands (R.remembered replay.old) (base ++ own)
+        → IsPurged (R.remembered replay.new).floor (R.remembered replay.new).pairs base own moment result }
 {
     let floor = replay.floor();
     if moment < floor || moment - floor < PURGE_INTERVAL {

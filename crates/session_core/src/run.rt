@@ -2,7 +2,7 @@
 
 ghost use Rattle.std.specs.Prelude.{◌≡◌, ◌≢◌, ℕ, List};
 ghost use Rattle.byte_io.specs.Counts.{Rose};
-ghost use Rattle.munge_types.specs.StandsFor.{StandsFor};
+ghost use Rattle.munge_types.specs.StandsFor.{Stands};
 ghost use Rattle.munge_types.specs.declared.history.Event.{Event};
 ghost use Rattle.subkeys.specs.Subkeys.{IsOf};
 ghost use Rattle.session_core.specs.SessionRan.{SessionRan};
@@ -39,17 +39,17 @@ pub fn session<I: Source, O: Sink, C: Clock, R: Replay>(
 ) -> SessionEnd
     // For each key that the subkeys are of, and each history that the state stands for at entry.
     ensures ran { (key : List ℕ) (base : List Event) → IsOf world.now.subkeys key
-        → StandsFor (R.floor_moment replay.old) (R.kept_pairs replay.old) base
+        → Stands (R.remembered replay.old) base
         → SessionRan key world.now.settings who seed base result
-        (record { left = I.left input.old; taken = O.taken out.old; readings = C.readings clock.old; floor = R.floor_moment replay.old; kept = R.kept_pairs replay.old })
-        (record { left = I.left input.new; taken = O.taken out.new; readings = C.readings clock.new; floor = R.floor_moment replay.new; kept = R.kept_pairs replay.new })
+        (record { left = I.left input.old; taken = O.taken out.old; readings = C.readings clock.old; floor = (R.remembered replay.old).floor; kept = (R.remembered replay.old).pairs })
+        (record { left = I.left input.new; taken = O.taken out.new; readings = C.readings clock.new; floor = (R.remembered replay.new).floor; kept = (R.remembered replay.new).pairs })
         (CameToEnd (I.ends input.old) (I.ends input.new) (I.left input.new)) }
 
     // Where no kept pair is below the floor at entry, none is at the end.
     ensures live { (key : List ℕ) (base : List Event) → IsOf world.now.subkeys key
-        → StandsFor (R.floor_moment replay.old) (R.kept_pairs replay.old) base
-        → AllLive (R.floor_moment replay.old) (R.kept_pairs replay.old)
-        → AllLive (R.floor_moment replay.new) (R.kept_pairs replay.new) }
+        → Stands (R.remembered replay.old) base
+        → AllLive (R.remembered replay.old).floor (R.remembered replay.old).pairs
+        → AllLive (R.remembered replay.new).floor (R.remembered replay.new).pairs }
 
     ensures read_fault { result.how ≡ HowEnded.ReadFault → Rose (I.read_faults input.old) (I.read_faults input.new) }
     ensures write_fault { result.how ≡ HowEnded.WriteFault → Rose (O.write_faults out.old) (O.write_faults out.new) }

@@ -2,7 +2,7 @@
 
 ghost use Rattle.std.specs.Prelude.{◌≡◌, ◌≢◌, ℕ, ◌+◌, ◌<◌, ◌≤◌, ◌^◌, ◌++◌, List, length, MatchResult, IfOk};
 ghost use Rattle.byte_io.specs.Counts.{Rose};
-ghost use Rattle.munge_types.specs.StandsFor.{StandsFor};
+ghost use Rattle.munge_types.specs.StandsFor.{Stands};
 ghost use Rattle.munge_types.specs.declared.history.Event.{Event};
 ghost use Rattle.subkeys.specs.Subkeys.{IsOf};
 ghost use Rattle.session_core.specs.AllLive.{AllLive};
@@ -47,16 +47,16 @@ pub(crate) fn take_turn<I: Source, O: Sink, C: Clock, R: Replay>(
     requires few_entries { at.entries + 2 < 2 ^ 64 }
 
     ensures turned { (key : List ℕ) (base : List Event) (own : Own) → IsOf world.now.subkeys key
-        → StandsFor (R.floor_moment replay.old) (R.kept_pairs replay.old) (base ++ own.events)
+        → Stands (R.remembered replay.old) (base ++ own.events)
         → length own.events ≡ at.entries → own.place ≡ place_of dice.old
         → MatchResult result
         (Answered key world.now.settings who (seed_of dice.old) base own
-        (record { left = I.left input.old; taken = O.taken out.old; readings = C.readings clock.old; floor = R.floor_moment replay.old; kept = R.kept_pairs replay.old })
-        (record { left = I.left input.new; taken = O.taken out.new; readings = C.readings clock.new; floor = R.floor_moment replay.new; kept = R.kept_pairs replay.new })
+        (record { left = I.left input.old; taken = O.taken out.old; readings = C.readings clock.old; floor = (R.remembered replay.old).floor; kept = (R.remembered replay.old).pairs })
+        (record { left = I.left input.new; taken = O.taken out.new; readings = C.readings clock.new; floor = (R.remembered replay.new).floor; kept = (R.remembered replay.new).pairs })
         at (place_of dice.new))
         (Ended key world.now.settings who (seed_of dice.old) base own
-        (record { left = I.left input.old; taken = O.taken out.old; readings = C.readings clock.old; floor = R.floor_moment replay.old; kept = R.kept_pairs replay.old })
-        (record { left = I.left input.new; taken = O.taken out.new; readings = C.readings clock.new; floor = R.floor_moment replay.new; kept = R.kept_pairs replay.new })
+        (record { left = I.left input.old; taken = O.taken out.old; readings = C.readings clock.old; floor = (R.remembered replay.old).floor; kept = (R.remembered replay.old).pairs })
+        (record { left = I.left input.new; taken = O.taken out.new; readings = C.readings clock.new; floor = (R.remembered replay.new).floor; kept = (R.remembered replay.new).pairs })
         at.begins (CameToEnd (I.ends input.old) (I.ends input.new) (I.left input.new))) }
     ensures same_seed { seed_of dice.new ≡ seed_of dice.old }
     ensures begins_bound { IfOk result (λ next. next.begins ≤ at.begins + 2097159) }
@@ -71,9 +71,9 @@ pub(crate) fn take_turn<I: Source, O: Sink, C: Clock, R: Replay>(
     ensures ends_stay { I.ends input.old ≤ I.ends input.new }
 
     ensures live { (history : List Event)
-        → StandsFor (R.floor_moment replay.old) (R.kept_pairs replay.old) history
-        → AllLive (R.floor_moment replay.old) (R.kept_pairs replay.old)
-        → AllLive (R.floor_moment replay.new) (R.kept_pairs replay.new) }
+        → Stands (R.remembered replay.old) history
+        → AllLive (R.remembered replay.old).floor (R.remembered replay.old).pairs
+        → AllLive (R.remembered replay.new).floor (R.remembered replay.new).pairs }
 {
     let request = match read_request(alloc, input) {
         Ok(request) => request,

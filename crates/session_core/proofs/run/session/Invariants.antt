@@ -1,5 +1,5 @@
 use Rattle.std.proofs.Common.{◌≡◌, ℕ, ◌*◌, ◌≤◌, List}
-use Rattle.munge_types.specs.StandsFor.{StandsFor}
+use Rattle.munge_types.specs.StandsFor.{Stands}
 use Rattle.munge_types.specs.declared.history.Event.{Event}
 use Rattle.subkeys.specs.Subkeys.{IsOf}
 use Rattle.session_core.specs.AllLive.{AllLive}
@@ -11,16 +11,16 @@ use Rattle.session_core.proofs.run.session.Given as goal
 abbrev pub invariant-requests : goal.invariant-requests
 invariant-requests g l = record {
   so_far : (key : List ℕ) (base : List Event) → IsOf l.world.subkeys key
-      → StandsFor (g.R.Replay.floor_moment l.initial.replay) (g.R.Replay.kept_pairs l.initial.replay) base
+      → Stands (g.R.Replay.remembered l.initial.replay) base
       → RunSoFar key l.world.settings l.who l.fn.seed base
-      (record { left = g.I.Source.left l.initial.input; taken = g.O.Sink.taken l.initial.out; readings = g.C.Clock.readings l.initial.clock; floor = g.R.Replay.floor_moment l.initial.replay; kept = g.R.Replay.kept_pairs l.initial.replay })
-      (record { left = g.I.Source.left l.input; taken = g.O.Sink.taken l.out; readings = g.C.Clock.readings l.clock; floor = g.R.Replay.floor_moment l.replay; kept = g.R.Replay.kept_pairs l.replay })
+      (record { left = g.I.Source.left l.initial.input; taken = g.O.Sink.taken l.initial.out; readings = g.C.Clock.readings l.initial.clock; floor = (g.R.Replay.remembered l.initial.replay).floor; kept = (g.R.Replay.remembered l.initial.replay).pairs })
+      (record { left = g.I.Source.left l.input; taken = g.O.Sink.taken l.out; readings = g.C.Clock.readings l.clock; floor = (g.R.Replay.remembered l.replay).floor; kept = (g.R.Replay.remembered l.replay).pairs })
       l.answered l.at (place_of l.dice);
   same_seed : seed_of l.dice ≡ l.fn.seed;
   live : (key : List ℕ) (base : List Event) → IsOf l.world.subkeys key
-      → StandsFor (g.R.Replay.floor_moment l.initial.replay) (g.R.Replay.kept_pairs l.initial.replay) base
-      → AllLive (g.R.Replay.floor_moment l.initial.replay) (g.R.Replay.kept_pairs l.initial.replay)
-      → AllLive (g.R.Replay.floor_moment l.replay) (g.R.Replay.kept_pairs l.replay);
+      → Stands (g.R.Replay.remembered l.initial.replay) base
+      → AllLive (g.R.Replay.remembered l.initial.replay).floor (g.R.Replay.remembered l.initial.replay).pairs
+      → AllLive (g.R.Replay.remembered l.replay).floor (g.R.Replay.remembered l.replay).pairs;
   begins_bound : l.at.begins ≤ 2097159 * l.answered;
   entries_bound : l.at.entries ≤ 2 * l.answered;
   reads_sound : g.I.Source.read_faults l.input ≡ g.I.Source.read_faults l.initial.input;
