@@ -1,3 +1,4 @@
+pub mod Bodies
 mod DiceWords
 pub mod Once
 pub mod RoundTrips

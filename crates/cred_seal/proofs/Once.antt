@@ -9,21 +9,26 @@ use Rattle.munge_types.specs.declared.identity.Identity.{Identity}
 use Rattle.munge_types.specs.declared.settings.Settings.{Settings}
 use Rattle.cred_armor.specs.CredentialText.{armor_of}
 use Rattle.cred_inner.specs.InnerPart.{inner_part}
-use Rattle.cred_open.specs.Body.{IsBody, mac_of}
-use Rattle.cred_open.specs.OuterPart.{outer_part, vector_size}
+use Rattle.cred_outer.specs.OuterPart.{outer_part, vector_size}
+use Rattle.cred_open.specs.Body.{IsBody, Seals, mac_of}
 use Rattle.cred_seal.specs.Asked.{Asked, mac_asked}
 use Rattle.cred_seal.specs.SealedContent.{sealed_content}
 use Rattle.cred_seal.specs.SealedText.{IsSealed}
 
--- an inner part has one body by the same algorithms
+-- an inner part has one sealed part by the same algorithms
+one_sealed : (key : List ℕ) (cipher : Cipher) (kind : MacKind) (vector mac inner first second : List ℕ) → Seals key cipher kind vector mac inner first
+    → Seals key cipher kind vector mac inner second → first ≡ second
+one_sealed key ciphers.None kind vector mac inner first second one two = one ∙ sym two
+one_sealed key ciphers.Aes128 kind vector mac inner first second one two = one ∙ sym two
+one_sealed key ciphers.Aes256 kind vector mac inner first second one two = one ∙ sym two
+
+-- and one body
 one_body : (key : List ℕ) (cipher : Cipher) (kind : MacKind) (vector inner first second : List ℕ) → IsBody key cipher kind vector inner first
     → IsBody key cipher kind vector inner second → first ≡ second
-one_body key ciphers.None kind vector inner first second one two =
-    let made : List ℕ → List ℕ = λ sealed. outer_part ciphers.None kind vector ++ (mac_of key ciphers.None kind vector inner ++ sealed) in
-    let same : one.sealed ≡ two.sealed = one.seals ∙ sym two.seals in
+one_body key cipher kind vector inner first second one two =
+    let made : List ℕ → List ℕ = λ sealed. outer_part cipher kind vector ++ (mac_of key cipher kind vector inner ++ sealed) in
+    let same : one.sealed ≡ two.sealed = one_sealed key cipher kind vector _ inner one.sealed two.sealed one.seals two.seals in
     one.whole ∙ (ap made same ∙ sym two.whole)
-one_body key ciphers.Aes128 kind vector inner first second one two = absurd one.seals
-one_body key ciphers.Aes256 kind vector inner first second one two = absurd one.seals
 
 some_once : {A : Type 0} (a b : A) → ◌≡◌ {A = Option A} (Some a) (Some b) → a ≡ b
 some_once a b same = cc same

@@ -32,9 +32,13 @@ asked_of request =
       payload = request.payload.now;
     }
 
--- the cipher that a number asks for: 0 for none, and no other is built yet
+-- the cipher that a number asks for: 0 for none, 4 for AES-128, which is the default that 1 asks
+-- for, and 5 for AES-256
 abbrev pub cipher_asked : ℕ → Option Cipher
-cipher_asked number = cond (nat_eq number 0) (Some cipher.None) None
+cipher_asked number =
+    cond (nat_eq number 0) (Some cipher.None)
+    (cond (nat_eq number 4 || nat_eq number 1) (Some cipher.Aes128)
+    (cond (nat_eq number 5) (Some cipher.Aes256) None))
 
 -- SHA-1, but with AES-256: such a key has 32 bytes, and SHA-1 gives 20
 abbrev pub sha1_with : Cipher → Option MacKind

@@ -1,5 +1,6 @@
 pub mod Asked
 pub mod Dice
+pub mod PlainPart
 pub mod RefusedText
 pub mod RoundTrip
 pub mod SealRefused

@@ -9,14 +9,16 @@ use Rattle.cred_seal.specs.Asked.{Asked, cipher_asked, mac_asked}
 use Rattle.cred_seal.specs.declared.sealing.SealRefused.{SealRefused}
 use Rattle.cred_seal.specs.declared.sealing.SealRefused.TheVariants.{BadCipher, BadMac, BadLength, NoMemory}
 
--- the first cause to refuse a request: the cipher is not built, there is no such MAC with it, or the
+-- the first cause to refuse a request: there is no such cipher, there is no such MAC with it, or the
 -- payload is too long
 abbrev pub first_refusal : Asked → Option SealRefused
 first_refusal asked = by_cipher (cipher_asked asked.cipher)
   where
     by_mac : Option MacKind → Option SealRefused
     by_mac None = Some BadMac
-    by_mac (Some kind) = cond (nat_lt payload_limit (length asked.payload)) (Some (BadLength (length asked.payload))) None
+    by_mac (Some kind) =
+        cond (nat_lt payload_limit (length asked.payload))
+        (Some (BadLength (length asked.payload))) None
 
     by_cipher : Option Cipher → Option SealRefused
     by_cipher None = Some BadCipher

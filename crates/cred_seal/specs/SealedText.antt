@@ -8,7 +8,7 @@ use Rattle.munge_types.specs.declared.settings.Settings.{Settings}
 use Rattle.cred_armor.specs.CredentialText.{armor_of}
 use Rattle.cred_inner.specs.InnerPart.{inner_part}
 use Rattle.cred_open.specs.Body.{IsBody}
-use Rattle.cred_open.specs.OuterPart.{vector_size}
+use Rattle.cred_outer.specs.OuterPart.{vector_size}
 use Rattle.cred_seal.specs.Asked.{Asked, cipher_asked, mac_asked}
 use Rattle.cred_seal.specs.SealedContent.{sealed_content}
 
@@ -18,11 +18,14 @@ text_limit = 1398287
 
 -- The text is the armour of the body whose inner part says what was asked, by whom and when, with
 -- this salt, by the algorithms that were asked for. Without a cipher the vector is left out.
-pub record IsSealed (key : List ℕ) (settings : Settings) (asked : Asked) (who : Identity) (moment : ℕ) (salt vector text : List ℕ) : Type 0 where
+pub record IsSealed
+    (key : List ℕ) (settings : Settings) (asked : Asked) (who : Identity) (moment : ℕ)
+    (salt vector text : List ℕ) : Type 0 where
   pub cipher : Cipher
   pub kind : MacKind
   pub body : List ℕ
   pub cipher_is : cipher_asked asked.cipher ≡ Some cipher
   pub kind_is : mac_asked cipher asked.kind ≡ Some kind
-  pub sealed : IsBody key cipher kind (take (vector_size cipher) vector) (inner_part (sealed_content settings asked who moment salt)) body
+  pub sealed : IsBody key cipher kind (take (vector_size cipher) vector)
+      (inner_part (sealed_content settings asked who moment salt)) body
   pub armored : text ≡ armor_of body

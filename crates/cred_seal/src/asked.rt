@@ -1,8 +1,9 @@
 //! What a request asks for, looked up and checked.
 
-ghost use Rattle.std.specs.Prelude.{◌≡◌, ◌≤◌, length, None, Some, IfOk, IfErr, OnOk};
+ghost use Rattle.std.specs.Prelude.{◌≡◌, ◌≤◌, false, length, None, Some, IfOk, IfErr, IfSome, OnOk};
 ghost use Rattle.cred_inner.specs.InnerPart.{payload_limit};
-ghost use Rattle.munge_types.specs.declared.algorithms.Cipher.{Cipher};
+ghost use Rattle.munge_types.specs.Algorithms.{cipher_number, mac_number};
+ghost use Rattle.cred_outer.specs.OuterRules.{key_too_long};
 ghost use Rattle.cred_seal.specs.Asked.{asked_of, cipher_asked, mac_asked, sha1_with};
 ghost use Rattle.cred_seal.specs.SealRefused.{first_refusal};
 ghost use Rattle.cred_seal.specs.SealedContent.{stored_ttl};
@@ -17,14 +18,17 @@ const DEFAULT_TTL: u32 = 0;
 /// The time to live that asks for the longest.
 const LONGEST_TTL: u32 = u32::MAX;
 
-/// The MAC of a request, which asks for no cipher, as no other is built; or the first cause to
-/// refuse it.
-pub(crate) fn mac_for(request: &SealRequest<'_>) -> Result<MacKind, SealRefused>
+/// The cipher and the MAC that a request asks for; or the first cause to refuse it.
+pub(crate) fn algorithms_of(request: &SealRequest<'_>) -> Result<(Cipher, MacKind), SealRefused>
     ensures refused { IfErr result (λ refused.
         first_refusal (asked_of request.now) ≡ Some refused) }
     ensures unrefused { OnOk result (first_refusal (asked_of request.now) ≡ None) }
-    ensures cipher { OnOk result (cipher_asked request.now.cipher ≡ Some Cipher.None) }
-    ensures kind { IfOk result (λ kind. mac_asked Cipher.None request.now.kind ≡ Some kind) }
+    ensures cipher { IfOk result (λ algorithms.
+        cipher_asked request.now.cipher ≡ Some algorithms.0) }
+    ensures kind { IfOk result (λ algorithms.
+        mac_asked algorithms.0 request.now.kind ≡ Some algorithms.1) }
+    ensures keyed { IfOk result (λ algorithms.
+        key_too_long (cipher_number algorithms.0) (mac_number algorithms.1) ≡ false) }
     ensures payload { OnOk result (length request.now.payload.now ≤ payload_limit) }
 {
     let Some(cipher) = cipher_asked(request.cipher) else {
@@ -37,22 +41,26 @@ pub(crate) fn mac_for(request: &SealRequest<'_>) -> Result<MacKind, SealRefused>
     if size > PAYLOAD_LIMIT {
         return Err(SealRefused::BadLength(size as u64));
     }
-    Ok(kind)
+    Ok((cipher, kind))
 }
 
-/// The cipher of this number in a request, and None where none that is built has it.
+/// The cipher of this number in a request, and None where none has it.
 fn cipher_asked(number: u8) -> Option<Cipher>
     ensures { result ≡ cipher_asked number }
 {
     match number {
         0 => Some(Cipher::None),
+        4 | 1 => Some(Cipher::Aes128),
+        5 => Some(Cipher::Aes256),
         _ => None,
     }
 }
 
 /// The MAC of this number in a request, and None where none has it that can be used with the cipher.
 fn mac_asked(cipher: Cipher, number: u8) -> Option<MacKind>
-    ensures { result ≡ mac_asked cipher number }
+    ensures kind { result ≡ mac_asked cipher number }
+    ensures keyed { IfSome result (λ kind.
+        key_too_long (cipher_number cipher) (mac_number kind) ≡ false) }
 {
     match number {
         3 => sha1_with(cipher),
@@ -64,7 +72,9 @@ fn mac_asked(cipher: Cipher, number: u8) -> Option<MacKind>
 
 /// SHA-1, but with AES-256: such a key has 32 bytes, and SHA-1 gives 20.
 fn sha1_with(cipher: Cipher) -> Option<MacKind>
-    ensures { result ≡ sha1_with cipher }
+    ensures kind { result ≡ sha1_with cipher }
+    ensures keyed { IfSome result (λ kind.
+        key_too_long (cipher_number cipher) (mac_number kind) ≡ false) }
 {
     match cipher {
         Cipher::None | Cipher::Aes128 => Some(MacKind::Sha1),

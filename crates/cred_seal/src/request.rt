@@ -3,7 +3,8 @@
 /// What a client asks to be sealed, by the numbers that it sent.
 #[derive(Clone, Copy, Debug, PartialEq, Eq)]
 pub struct SealRequest<'a> {
-    /// The number of the cipher: 0 for none. No other is built yet.
+    /// The number of the cipher: 0 for none, 4 for AES-128, 5 for AES-256, and 1 for the default,
+    /// which is AES-128.
     pub cipher: u8,
     /// The number of the MAC: 3 for SHA-1, 5 for SHA-256, 6 for SHA-512, and 1 for the default,
     /// which is SHA-256.

@@ -10,12 +10,11 @@ ghost use Rattle.cred_seal.specs.SealedContent.{sealed_content};
 ghost use Rattle.cred_seal.specs.SealedText.{IsSealed, text_limit};
 
 use crate::SealRequest;
-use crate::asked::{mac_for, stored_ttl};
-use crate::body::plain_body;
+use crate::asked::{algorithms_of, stored_ttl};
+use crate::body::sealed_body;
 use cred_armor::armor;
 use cred_armor::laws::{armor_size, armor_spells_its_body};
 use cred_inner::Inner;
-use hmac_core::laws::mac_has_its_size;
 use munge_types::{Identity, Settings};
 use std::alloc::Global;
 use std::error::Error;
@@ -28,7 +27,7 @@ mod tests;
 /// Why a request is not sealed: the first cause that stands, in this order.
 #[derive(Clone, Copy, Debug, PartialEq, Eq)]
 pub enum SealRefused {
-    /// The number is that of no cipher that is built.
+    /// The number is that of no cipher.
     BadCipher,
     /// The number is that of no MAC that can be used with the cipher.
     BadMac,
@@ -80,14 +79,14 @@ pub fn seal(
 {
     armor_size();
     armor_spells_its_body();
-    mac_has_its_size();
 
-    // Memory is taken twice, and nothing that was taken grows: 46 bytes, the MAC and the payload for
-    // the body, then 7 bytes, and 4 for each 3 of the body or fewer at its end, for the text. For
-    // SHA-256 and 1,048,576 bytes of payload that is 1,048,654 and 1,398,215. The payload is copied
-    // twice on its way into the text: into the body as it is, and from there as base64 right into
-    // the text. It is hashed where the caller has it.
-    let kind = mac_for(request)?;
+    // Memory is taken twice, and nothing that was taken grows: the outer part, the MAC, the inner
+    // part and its padding for the body, then 7 bytes, and 4 for each 3 of the body or fewer at its
+    // end, for the text. For SHA-512, AES and 1,048,576 bytes of payload that is 1,048,709 and
+    // 1,398,287. The payload is copied twice on its way into the text: into the body, where it is
+    // encrypted in place, and from there as base64 right into the text. It is hashed where the caller
+    // has it.
+    let (cipher, kind) = algorithms_of(request)?;
     let inner = Inner {
         salt,
         addr: settings.addr,
@@ -100,7 +99,7 @@ pub fn seal(
         payload: request.payload,
     };
 
-    let Ok(body) = plain_body(alloc, subkeys, kind, &inner) else {
+    let Ok(body) = sealed_body(alloc, subkeys, cipher, kind, &iv, &inner) else {
         return Err(SealRefused::NoMemory);
     };
     let Ok(text) = armor(alloc, &body) else {
