@@ -1,7 +1,7 @@
 -- An inner part is bytes, as its fields are.
 use Rattle.std.proofs.Common.{ℕ, zero, suc, ◌/◌, ◌%◌, ◌^◌, List, [], ◌∷◌, ◌++◌, length, map, arith}
 use Rattle.munge_types.specs.BigEndian.{be32}
-use Rattle.cred_inner.specs.Bytes.{IsBytes}
+use Rattle.munge_types.specs.Bytes.{IsBytes}
 use Rattle.cred_inner.specs.InnerPart.{Content, IsContent, inner_part, numbers}
 
 -- bytes behind bytes

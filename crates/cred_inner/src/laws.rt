@@ -1,7 +1,7 @@
 //! Laws of the inner part. Each function does nothing: what it ensures is the law.
 
 ghost use Rattle.std.specs.Prelude.{◌≡◌, ◌+◌, length};
-ghost use Rattle.cred_inner.specs.Bytes.{IsBytes};
+ghost use Rattle.munge_types.specs.Bytes.{IsBytes};
 ghost use Rattle.cred_inner.specs.InnerPart.{Content, IsContent, inner_part};
 
 /// An inner part is that of one content at most.

@@ -12,7 +12,7 @@ use Rattle.cbc_mode.specs.Cbc.{cbc, IsBlocks}
 use Rattle.cbc_mode.specs.Padding.{padded}
 use Rattle.subkeys.specs.DataKey.{data_key_of, data_key_under}
 use Rattle.subkeys.specs.Subkeys.{SubkeyPair, IsOf, cipher_subkey}
-use Rattle.cred_inner.specs.Bytes.{IsBytes}
+use Rattle.munge_types.specs.Bytes.{IsBytes}
 use Rattle.cred_outer.specs.OuterPart.{vector_size}
 use Rattle.cred_open.specs.Body.{Seals}
 use Rattle.cred_open.proofs.Bodies.{all_bytes}

@@ -10,7 +10,7 @@ use Rattle.munge_types.specs.declared.status.Status.TheVariants.{Invalid}
 use Rattle.hmac_core.specs.Hmac.{hmac}
 use Rattle.subkeys.specs.Subkeys.{mac_subkey}
 use Rattle.cred_armor.specs.CredentialText.{Spells}
-use Rattle.cred_inner.specs.Bytes.{IsBytes}
+use Rattle.munge_types.specs.Bytes.{IsBytes}
 use Rattle.cred_inner.specs.InnerPart.{Content, IsContent, inner_part, numbers}
 use Rattle.cred_outer.specs.BodyParts.{AreParts}
 use Rattle.cred_outer.specs.OuterPart.{outer_part}

@@ -8,7 +8,7 @@ use Rattle.cbc_mode.specs.Padding.{padded}
 use Rattle.hmac_core.specs.Hmac.{hmac}
 use Rattle.subkeys.specs.DataKey.{data_key_of}
 use Rattle.subkeys.specs.Subkeys.{mac_subkey}
-use Rattle.cred_inner.specs.Bytes.{IsBytes}
+use Rattle.munge_types.specs.Bytes.{IsBytes}
 use Rattle.cred_outer.specs.OuterPart.{outer_part, vector_size}
 
 -- The sealed part of an inner part. Without a cipher that is the inner part itself. Else it is the

@@ -5,7 +5,7 @@ ghost use Rattle.std.specs.Prelude.{◌≡◌, ℕ, List, length};
 ghost use Rattle.munge_types.specs.declared.algorithms.Cipher.{Cipher};
 ghost use Rattle.munge_types.specs.declared.algorithms.MacKind.{MacKind};
 ghost use Rattle.munge_types.specs.declared.status.Status.{Status};
-ghost use Rattle.cred_inner.specs.Bytes.{IsBytes};
+ghost use Rattle.munge_types.specs.Bytes.{IsBytes};
 ghost use Rattle.cred_outer.specs.OuterPart.{vector_size};
 ghost use Rattle.cred_open.specs.Body.{IsBody, Seals};
 ghost use Rattle.cred_open.specs.Credential.{Credential};

@@ -4,7 +4,7 @@ ghost use Rattle.std.specs.Prelude.{◌≡◌, ◌+◌, ◌≤◌, ℕ, List, So
 ghost use Rattle.munge_types.specs.Algorithms.{cipher_number, mac_number};
 ghost use Rattle.subkeys.specs.Subkeys.{IsOf};
 ghost use Rattle.cred_armor.specs.CredentialText.{Spells};
-ghost use Rattle.cred_inner.specs.Bytes.{IsBytes};
+ghost use Rattle.munge_types.specs.Bytes.{IsBytes};
 ghost use Rattle.cred_outer.specs.OuterPart.{vector_size};
 ghost use Rattle.cred_outer.specs.OuterRules.{is_sealed_size, key_too_long};
 ghost use Rattle.cred_open.specs.Body.{Seals};

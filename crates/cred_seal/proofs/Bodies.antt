@@ -10,7 +10,7 @@ use Rattle.munge_types.specs.declared.algorithms.MacKind.{MacKind}
 use Rattle.cbc_mode.specs.Padding.{pad_size, padded}
 use Rattle.hmac_core.specs.Hmac.{hmac}
 use Rattle.subkeys.specs.Subkeys.{mac_subkey}
-use Rattle.cred_inner.specs.Bytes.{IsBytes}
+use Rattle.munge_types.specs.Bytes.{IsBytes}
 use Rattle.cred_outer.specs.BodyParts.{AreParts}
 use Rattle.cred_outer.specs.OuterPart.{outer_part, outer_size, vector_size}
 use Rattle.cred_outer.specs.OuterRules.{is_sealed_size}

@@ -1,7 +1,7 @@
 use Rattle.std.proofs.Common.{◌≡◌, ℕ, List, take, rules}
 use Rattle.munge_types.specs.declared.algorithms.Cipher.TheVariants as ciphers
 use Rattle.cbc_mode.specs.Padding.{IsPaddedFront, padded}
-use Rattle.cred_inner.specs.Bytes.{IsBytes}
+use Rattle.munge_types.specs.Bytes.{IsBytes}
 use Rattle.cred_open.specs.Body.{Seals}
 use Rattle.cred_open.proofs.Decryption.{vector_is, decrypted, not_padded, if_some, if_none}
 use Rattle.cred_open.proofs.unsealing.decrypt.Goals as goal
