@@ -74,6 +74,7 @@ impl<S: BuildHasher + Drop> IndexedPairs<S> {
         ensures inserted { OnOk result (AddsPair self.old self.new pair.now) }
         ensures err { OnErr result (self.new ≡ self.old) }
     {
+        // Once the map has the MAC nothing may fail, so the set's room comes first.
         self.set.reserve(1)?;
         put_mac(&mut self.by_expiry, self.alloc, pair)?;
         let _ = self.set.insert(*pair);

@@ -7,8 +7,8 @@ use std::alloc::{AllocError, Global};
 use std::marker::Model;
 use std::mem;
 
-/// How many MACs a block has. Blocks never move, so a table that grows leaves no freed memory
-/// behind, and an expiry has no more than one block with room to spare.
+/// How many MACs a block has. Full blocks do not move, so a table that grows leaves no freed memory
+/// behind, and an expiry has at most one block with room to spare.
 const BLOCK: usize = 32;
 
 /// MACs in the order in which they came, in blocks of memory of one size. Contracts see their list.
