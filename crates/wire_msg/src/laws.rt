@@ -22,8 +22,8 @@ pub fn no_frame_goes_on_to_another()
         → IsFrame side (frame ++ more) → more ≡ [] }
 {}
 
-/// Just one holds of any bytes: they begin with a whole frame, or are a prefix of one and not all of
-/// it, or neither.
+/// Just one holds of any bytes: they begin with a whole frame, or are a prefix of one and not all
+/// of it, or neither.
 pub fn just_one_holds()
     ensures one_does { (side : Side) (bytes : List ℕ) → IsBytes bytes
         → BeginsFrame side bytes ⊎ (IsUnfinished side bytes ⊎ IsNoFrame side bytes) }
