@@ -1,4 +1,4 @@
-use Rattle.std.proofs.Common.{arith, ◌<◌, length}
+use Rattle.std.proofs.Common.{arith}
 use Rattle.wire_msg.proofs.Waiting.{body_enough, head_fewer, head_least, head_not_whole}
 use Rattle.wire_msg.proofs.feeder.Feeder.wanted.Goals as goal
 
