@@ -103,14 +103,16 @@ impl Feeder {
     /// the head lacks, and then those that the frame lacks. After `Fed::Bad` it means nothing. It
     /// takes no memory.
     pub fn wanted(&self) -> usize
-        ensures head { IsUnfinished self.now.side self.now.unfinished
-            → length self.now.unfinished < head_size
+        ensures head { length self.now.unfinished < head_size
             → result + length self.now.unfinished ≡ head_size }
         ensures least { (piece : List ℕ) → IsFrame self.now.side (bytes_with self.now piece)
             → result ≤ length piece }
         ensures enough { IsUnfinished self.now.side self.now.unfinished
             → head_size ≤ length self.now.unfinished → (piece : List ℕ) → IsBytes piece
             → length piece ≡ result → IsFrame self.now.side (bytes_with self.now piece) }
+        ensures fewer { IsUnfinished self.now.side self.now.unfinished
+            → head_size ≤ length self.now.unfinished → (piece : List ℕ) → IsBytes piece
+            → length piece < result → IsUnfinished self.now.side (bytes_with self.now piece) }
         ensures some { IsUnfinished self.now.side self.now.unfinished → 1 ≤ result }
     {
         match &self.begun {

@@ -33,6 +33,13 @@ pub fn just_one_holds()
         → IsNoFrame side bytes → ⊥ }
 {}
 
+/// No bytes are an unfinished frame, and so are the first bytes of any unfinished one.
+pub fn fronts_are_unfinished()
+    ensures none_yet { (side : Side) → IsUnfinished side [] }
+    ensures fewer { (side : Side) (bytes more : List ℕ) → IsUnfinished side (bytes ++ more)
+        → IsUnfinished side bytes }
+{}
+
 /// Bytes that are no frame's stay so, whatever comes after them.
 pub fn no_frame_stays()
     ensures { (side : Side) (bytes more : List ℕ) → IsNoFrame side bytes
