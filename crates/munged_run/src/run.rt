@@ -15,9 +15,10 @@ use crate::key_file::read_key;
 use crate::seed_file::read_seed;
 use byte_io::{Clock, Files, Sink, Source};
 use munge_types::Settings;
-use replay_table::PlainReplay;
+use replay_table::ReplayTable;
 use session_core::{World, session};
 use std::alloc::Global;
+use std::hash::{BuildHasherDefault, FoldHasher};
 
 /// Does what the words ask for, which do not hold the program's name, and returns the status of the
 /// process.
@@ -73,7 +74,8 @@ pub fn munged_run<F: Files, I: Source, O: Sink, E: Sink, C: Clock>(
         subkeys,
         settings: Settings::usual(),
     };
-    let mut replay = PlainReplay::new(alloc);
+    let hash_state: BuildHasherDefault<FoldHasher> = BuildHasherDefault::new();
+    let mut replay = ReplayTable::new(alloc, hash_state);
     let end = session(
         alloc,
         input,

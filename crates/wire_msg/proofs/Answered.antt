@@ -1,15 +1,15 @@
 -- What is answered to a piece.
-use Rattle.std.proofs.Common.{◌≡◌, ℕ, ◌+◌, ◌-◌, ◌≤◌, ◌<◌, List, [], ◌++◌, length, take, drop, refl, sym, ap, ◌∙◌, arith, inl, inr, ◌⊎◌}
+use Rattle.std.proofs.Common.{◌≡◌, ℕ, ◌-◌, ◌≤◌, ◌<◌, List, [], ◌++◌, length, take, drop, refl, sym, ap, ◌∙◌, arith, inl, inr, ◌⊎◌}
 use Rattle.std.specs.declared.option.Option.{Option}
 use Rattle.std.specs.declared.option.Option.TheVariants.{None, Some}
 use Rattle.std.proofs.lemmas.Bool.{cases_lt}
 use Rattle.std.proofs.lemmas.List.{append_assoc, append-nil, length-append, length-take, length-take-le, take-append-drop, take_all}
 use Rattle.wire_msg.proofs.Frames.{frame_laid, no_frame, unfinished_laid, unfinished_part, unfinished_prefix}
 use Rattle.wire_msg.proofs.ByteLists.{drop_bytes, take_bytes}
-use Rattle.wire_msg.specs.Begun.{IsWaiting, Partial, came}
+use Rattle.wire_msg.specs.Begun.{Partial, came}
 use Rattle.munge_types.specs.Bytes.{IsBytes}
 use Rattle.wire_msg.specs.Feeding.{Answers, Feeding}
-use Rattle.wire_msg.specs.Frame.{BeginsFrame, IsFrame, IsNoFrame, IsUnfinished}
+use Rattle.wire_msg.specs.Frame.{BeginsFrame, IsNoFrame, IsUnfinished}
 use Rattle.wire_msg.specs.FrameHead.{message_head}
 use Rattle.wire_msg.specs.Head.{BeginsNoHead, IsHead, IsHeadPart}
 use Rattle.wire_msg.specs.declared.fed.Fed.{Fed}

@@ -1,8 +1,8 @@
 -- Of any bytes it can be told whether they begin with a frame, are unfinished, or are no frame's.
-use Rattle.std.proofs.Common.{◌≡◌, ◌≢◌, ℕ, ◌+◌, ◌-◌, ◌≤◌, ◌<◌, max, List, [], ◌∷◌, ◌++◌, length, take, drop, refl, sym, ap, ◌∙◌, arith, inl, inr, ◌⊎◌}
+use Rattle.std.proofs.Common.{◌≡◌, ◌≢◌, ℕ, ◌≤◌, max, List, [], ◌∷◌, length, take, drop, refl, sym, ap, arith, inl, inr, ◌⊎◌}
 use Rattle.std.specs.Int.{w32, from_be_bytes}
 use Rattle.std.proofs.lemmas.Bool.{cases_eq, cases_lt}
-use Rattle.std.proofs.lemmas.List.{append_assoc, length-append, length-take, take-append-drop, take_all}
+use Rattle.std.proofs.lemmas.List.{length-take}
 use Rattle.munge_types.specs.BigEndian.{be32}
 use Rattle.wire_msg.proofs.Answered.{front_broken, front_of, front_part, front_whole}
 use Rattle.wire_msg.proofs.ByteLists.{drop_bytes, take_bytes}
@@ -11,9 +11,8 @@ use Rattle.wire_msg.proofs.Sizes.{between, begins_so, exactly}
 use Rattle.wire_msg.proofs.Spelled.{allowed_within}
 use Rattle.munge_types.specs.Bytes.{IsBytes}
 use Rattle.wire_msg.specs.Frame.{BeginsFrame, IsNoFrame, IsUnfinished}
-use Rattle.wire_msg.specs.FrameHead.{AllowsSize, body_limit, kind_number, message_head, side_of_kind}
-use Rattle.wire_msg.specs.Head.{BeginsNoHead, IsHead, IsHeadPart, IsSizePart, Sees, SeesSize, filled}
-use Rattle.wire_msg.specs.declared.head.Head.{Head}
+use Rattle.wire_msg.specs.FrameHead.{AllowsSize, body_limit, kind_number, side_of_kind}
+use Rattle.wire_msg.specs.Head.{Sees, SeesSize, filled}
 use Rattle.wire_msg.specs.declared.head.Seen.{Seen}
 use Rattle.wire_msg.specs.declared.head.Seen.TheVariants.{Whole, Part, Broken}
 use Rattle.wire_msg.specs.declared.kind.Kind.{Kind}

@@ -1,14 +1,14 @@
 -- Fixed fields, read at their places.
-use Rattle.std.proofs.Common.{◌≡◌, ℕ, ◌+◌, ◌-◌, ◌≤◌, ◌<◌, ◌^◌, List, [], ◌∷◌, ◌++◌, length, take, drop, get_or, suc, refl, sym, ap, ◌∙◌, arith, inl, inr}
+use Rattle.std.proofs.Common.{◌≡◌, ℕ, ◌+◌, ◌-◌, ◌≤◌, List, [], ◌∷◌, ◌++◌, length, take, drop, get_or, refl, sym, ap, ◌∙◌, arith, inl, inr}
 use Rattle.std.specs.Int.{w32, w64, from_be_bytes}
-use Rattle.std.proofs.lemmas.List.{append_assoc, append-nil, take-append-drop, length-take-le, length-drop, drop-drop, drop_all, nil_from_length, take_all}
+use Rattle.std.proofs.lemmas.List.{append-nil, take-append-drop, length-take-le, length-drop, drop-drop, drop_all, nil_from_length, take_all}
 use Rattle.std.proofs.Math.Seq.{drop-cons}
 use Rattle.std.proofs.lemmas.Nat.{be_bytes_4, be_bytes_8}
 use Rattle.munge_types.specs.BigEndian.{be32, be64}
 use Rattle.wire_msg.proofs.ByteLists.{take_bytes, drop_bytes}
 use Rattle.wire_msg.specs.Begun.{IsReplySize}
 use Rattle.munge_types.specs.Bytes.{IsBytes}
-use Rattle.wire_msg.specs.Spelling.{ask_head, content_head, reply_head}
+use Rattle.wire_msg.specs.Spelling.{reply_head}
 
 -- the bytes at a place, and the numbers in four and in eight of them
 abbrev pub part : List ℕ → (size at : ℕ) → List ℕ

@@ -1,19 +1,19 @@
 -- Laws of frames.
-use Rattle.std.proofs.Common.{◌≡◌, ℕ, ◌+◌, ◌-◌, ◌≤◌, ◌<◌, ◌^◌, List, [], ◌∷◌, ◌++◌, length, take, drop, refl, sym, ap, ◌∙◌, arith, inl, inr}
+use Rattle.std.proofs.Common.{◌≡◌, ℕ, List, [], ◌∷◌, ◌++◌, length, take, drop, refl, sym, ap, ◌∙◌, arith, inl, inr}
 use Rattle.std.specs.declared.option.Option.{Option}
 use Rattle.std.specs.declared.option.Option.TheVariants.{None, Some}
 use Rattle.std.proofs.lemmas.Bool.{cases_lt}
-use Rattle.std.proofs.lemmas.List.{append_assoc, append-nil, length-append, length-take-le, take-append-le, drop-append-le, take-append-drop, take_all, drop_all}
-use Rattle.std.proofs.Math.Seq.{take-append_seam, drop-append_seam}
+use Rattle.std.proofs.lemmas.List.{append_assoc, append-nil, length-append, nil_from_length, take-append-le, take-append-drop}
+use Rattle.std.proofs.Math.Seq.{take-append_seam}
 use Rattle.munge_types.specs.BigEndian.{be32, be64}
-use Rattle.wire_msg.proofs.Frames.{frames_apart, heads_apart}
+use Rattle.wire_msg.proofs.Frames.{frames_apart, heads_apart, unfinished_part}
+use Rattle.wire_msg.proofs.SeenHead.{sees_none}
 use Rattle.wire_msg.proofs.Parts.{apart, number_apart, number8_apart}
 use Rattle.wire_msg.proofs.Spelled.{body_allowed}
-use Rattle.wire_msg.specs.Fits.{FitsAsk, FitsContent, FitsDecodeSaid, FitsEncodeSaid, FitsFields, FitsIfAny, IsMessage}
-use Rattle.wire_msg.specs.Frame.{BeginsFrame, IsFrame, IsFramePrefix, IsNoFrame}
+use Rattle.wire_msg.specs.Fits.{FitsAsk, FitsContent, FitsDecodeSaid, FitsFields, FitsIfAny, IsMessage}
+use Rattle.wire_msg.specs.Frame.{BeginsFrame, IsFrame, IsNoFrame, IsUnfinished}
 use Rattle.wire_msg.specs.FrameHead.{message_head}
-use Rattle.wire_msg.specs.Spelling.{ask_head, body_of, content_bytes, content_head, fields_of, frame_of, kind_of, reply_head}
-use Rattle.wire_msg.specs.declared.kind.Kind.{Kind}
+use Rattle.wire_msg.specs.Spelling.{body_of, content_bytes, frame_of, kind_of}
 use Rattle.wire_msg.specs.declared.kind.Side.{Side}
 use Rattle.wire_msg.specs.declared.message.Content.{Content}
 use Rattle.wire_msg.specs.declared.message.DecodeSaid.{DecodeSaid}
@@ -204,3 +204,18 @@ no_frame_later side bytes more none =
 pub message_allowed : (side : Side) (message : Message) → IsMessage side message
     → Rattle.wire_msg.specs.FrameHead.AllowsSize (kind_of message) (length (body_of message))
 message_allowed side message is_message = body_allowed message is_message.fits is_message.within
+
+pub none_unfinished : (side : Side) → IsUnfinished side []
+none_unfinished side =
+    let sees = sees_none side [] refl in
+    unfinished_part side [] sees.0 sees.1
+
+pub fewer_unfinished : (side : Side) (bytes more : List ℕ) → IsUnfinished side (bytes ++ more) → IsUnfinished side bytes
+fewer_unfinished side bytes more unfinished =
+    record {
+      rest = more ++ unfinished.rest;
+      wants_some = λ none.
+          let lengths = ap length none in
+          unfinished.wants_some (nil_from_length unfinished.rest (omega (arith, lengths, length-append more unfinished.rest)));
+      completed = rw (← append_assoc bytes more unfinished.rest) unfinished.completed;
+    }

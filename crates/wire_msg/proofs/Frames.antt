@@ -1,20 +1,18 @@
 -- Frames as heads and bodies.
-use Rattle.std.proofs.Common.{◌≡◌, ◌≢◌, ℕ, ◌+◌, ◌-◌, ◌≤◌, ◌<◌, ◌^◌, List, [], ◌∷◌, ◌++◌, length, Bool, nat_eq, cond, refl, sym, ap, ◌∙◌, arith, ◌⊎◌, inl, inr}
+use Rattle.std.proofs.Common.{◌≡◌, ◌≢◌, ℕ, ◌-◌, ◌≤◌, ◌<◌, List, [], ◌++◌, length, nat_eq, cond, refl, sym, ap, ◌∙◌, arith, ◌⊎◌, inl, inr}
 use Rattle.std.proofs.lemmas.List.{append_assoc, append-nil, length-append, nil_from_length}
 use Rattle.munge_types.specs.BigEndian.{be32}
 use Rattle.wire_msg.proofs.ByteLists.{append_bytes, zeros, length-zeros, zeros_bytes}
 use Rattle.wire_msg.proofs.Parts.{apart, number_apart, SameParts}
-use Rattle.wire_msg.proofs.Spelled.{Spelled, read_body, allowed_within, body_allowed}
+use Rattle.wire_msg.proofs.Spelled.{read_body, allowed_within, body_allowed}
 use Rattle.munge_types.specs.Bytes.{IsBytes}
-use Rattle.wire_msg.specs.Fits.{IsMessage}
 use Rattle.wire_msg.specs.Frame.{BeginsFrame, IsFrame, IsFramePrefix, IsNoFrame, IsUnfinished}
 use Rattle.wire_msg.specs.FrameHead.{AllowsSize, message_head, kind_number, side_of_kind}
 use Rattle.wire_msg.specs.Head.{BeginsNoHead, IsHead, IsHeadPart}
-use Rattle.wire_msg.specs.Spelling.{body_of, frame_of, kind_of, side_of}
+use Rattle.wire_msg.specs.Spelling.{body_of, kind_of}
 use Rattle.wire_msg.specs.declared.kind.Kind.{Kind}
 use Rattle.wire_msg.specs.declared.kind.Kind.TheVariants as kind
 use Rattle.wire_msg.specs.declared.kind.Side.{Side}
-use Rattle.wire_msg.specs.declared.message.Message.{Message}
 
 -- a head and as many bytes as it says
 pub record Laid (side : Side) (bytes : List ℕ) : Type 0 where

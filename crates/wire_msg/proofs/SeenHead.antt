@@ -1,10 +1,9 @@
 -- What the first bytes of a frame show.
-use Rattle.std.proofs.Common.{◌≡◌, ◌≢◌, ℕ, ◌+◌, ◌≤◌, ◌<◌, List, [], ◌∷◌, ◌++◌, length, refl, sym, ap, ◌∙◌, arith}
+use Rattle.std.proofs.Common.{◌≡◌, ℕ, List, [], ◌∷◌, ◌++◌, refl, ap, ◌∙◌, arith}
 use Rattle.munge_types.specs.BigEndian.{be32}
 use Rattle.wire_msg.proofs.Frames.{kind_once}
-use Rattle.wire_msg.specs.FrameHead.{AllowsSize, head_size, kind_number, message_head, side_of_kind}
-use Rattle.wire_msg.specs.Head.{BeginsNoHead, IsHead, IsHeadPart, Sees, SeesSize}
-use Rattle.wire_msg.specs.declared.head.Head.{Head}
+use Rattle.wire_msg.specs.FrameHead.{kind_number, message_head, side_of_kind}
+use Rattle.wire_msg.specs.Head.{IsHeadPart, Sees, SeesSize}
 use Rattle.wire_msg.specs.declared.head.Seen.{Seen}
 use Rattle.wire_msg.specs.declared.head.Seen.TheVariants.{Whole, Part, Broken}
 use Rattle.wire_msg.specs.declared.kind.Kind.{Kind}

@@ -1,23 +1,20 @@
 -- Bodies and the messages that they are of.
-use Rattle.std.proofs.Common.{◌≡◌, ℕ, ◌+◌, ◌≤◌, ◌<◌, ◌^◌, ◌⊎◌, List, [], ◌∷◌, ◌++◌, length, take, drop, get_or, refl, sym, ap, ◌∙◌, arith, inl, inr}
+use Rattle.std.proofs.Common.{◌≡◌, ℕ, ◌+◌, ◌≤◌, ◌<◌, ◌^◌, List, [], ◌∷◌, ◌++◌, length, take, drop, get_or, refl, sym, ap, ◌∙◌, arith, inl, inr}
 use Rattle.std.specs.declared.option.Option.{Option}
 use Rattle.std.specs.declared.option.Option.TheVariants.{None, Some}
-use Rattle.std.proofs.lemmas.List.{append_assoc, append-nil, length-append, length-drop, take-append-drop, length-take-le, drop-drop, nil_from_length}
+use Rattle.std.proofs.lemmas.List.{length-append, length-drop, take-append-drop, length-take-le, nil_from_length}
 use Rattle.std.proofs.Math.Seq.{drop-cons}
-use Rattle.munge_types.specs.BigEndian.{be32, be64}
 use Rattle.wire_msg.proofs.ByteLists.{take_bytes, drop_bytes}
 use Rattle.wire_msg.proofs.Fields.{laid_ask, laid_reply, laid_content, number_in, number8_in, part_size, part_bytes}
-use Rattle.wire_msg.proofs.Parts.{apart, number_apart, number8_apart}
 use Rattle.munge_types.specs.Bytes.{IsBytes}
 use Rattle.wire_msg.specs.Fits.{FitsAsk, FitsContent, FitsDecodeSaid, FitsEncodeSaid, FitsFields, IsMessage}
 use Rattle.wire_msg.specs.FrameHead.{AllowsSize, body_limit}
-use Rattle.wire_msg.specs.Spelling.{ask_head, body_of, content_bytes, content_head, fields_of, kind_of, reply_head}
+use Rattle.wire_msg.specs.Spelling.{body_of, content_bytes, kind_of}
 use Rattle.wire_msg.specs.declared.kind.Kind.{Kind}
 use Rattle.wire_msg.specs.declared.kind.Kind.TheVariants as kind
 use Rattle.wire_msg.specs.declared.message.Content.{Content}
 use Rattle.wire_msg.specs.declared.message.DecodeSaid.{DecodeSaid}
 use Rattle.wire_msg.specs.declared.message.EncodeAsk.{EncodeAsk}
-use Rattle.wire_msg.specs.declared.message.EncodeSaid.{EncodeSaid}
 use Rattle.wire_msg.specs.declared.message.Message.{Message}
 use Rattle.wire_msg.specs.declared.message.Message.TheVariants.{EncodeRequest, EncodeReply, DecodeRequest, DecodeReply, Stop, Bye}
 

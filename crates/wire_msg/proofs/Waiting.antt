@@ -1,11 +1,11 @@
 -- What a feeder waits for.
-use Rattle.std.proofs.Common.{◌≡◌, ℕ, ◌+◌, ◌-◌, ◌≤◌, ◌<◌, List, [], ◌++◌, length, refl, sym, ap, ◌∙◌, arith, inl, inr}
+use Rattle.std.proofs.Common.{◌≡◌, ℕ, ◌+◌, ◌-◌, ◌≤◌, ◌<◌, List, ◌++◌, length, ap, arith, inl, inr}
 use Rattle.std.specs.declared.option.Option.{Option}
 use Rattle.std.specs.declared.option.Option.TheVariants.{None, Some}
 use Rattle.std.proofs.lemmas.Bool.{cases_lt}
 use Rattle.std.proofs.lemmas.List.{append_assoc, length-append}
 use Rattle.wire_msg.proofs.ByteLists.{append_bytes}
-use Rattle.wire_msg.proofs.Frames.{frame_laid, frame_size, not_unfinished}
+use Rattle.wire_msg.proofs.Frames.{frame_laid, frame_size, not_unfinished, unfinished_laid}
 use Rattle.wire_msg.specs.Begun.{IsWaiting, Partial, came}
 use Rattle.munge_types.specs.Bytes.{IsBytes}
 use Rattle.wire_msg.specs.Frame.{IsFrame, IsUnfinished}
@@ -53,3 +53,12 @@ taken_out side front begun begun' partial some waiting none =
     let waits = rw some at waiting in
     let size : length front ≡ 0 = ap length waits.0 in
     rw none (omega (arith, size), λ seven. absurd (omega (arith, size, seven)))
+
+pub body_fewer : (side : Side) (front : List ℕ) (begun : Option Partial) (partial : Partial) (missing : ℕ) → begun ≡ Some partial
+    → IsWaiting side front begun → length partial.body + missing ≡ partial.size → IsBytes partial.body
+    → (piece : List ℕ) → IsBytes piece → length piece < missing → IsUnfinished side (came front begun ++ piece)
+body_fewer side front begun partial missing is waiting counted bytes piece piece_bytes size =
+    let waits = rw is at waiting in
+    let fewer : length (partial.body ++ piece) < partial.size = simp length-append (omega arith) in
+    rw (is, append_assoc)
+    (unfinished_laid side partial.kind partial.size (partial.body ++ piece) waits.1 fewer (append_bytes partial.body piece bytes piece_bytes))

@@ -1,5 +1,5 @@
 -- Fixed fields, written one after another.
-use Rattle.std.proofs.Common.{◌≡◌, ℕ, List, [], ◌∷◌, ◌++◌, length, take, sym, arith}
+use Rattle.std.proofs.Common.{◌≡◌, ℕ, List, [], ◌∷◌, ◌++◌, length, take, arith}
 use Rattle.std.proofs.lemmas.List.{append_assoc, take_all}
 use Rattle.munge_types.specs.BigEndian.{be32}
 use Rattle.wire_msg.specs.Spelling.{ask_head, content_head}

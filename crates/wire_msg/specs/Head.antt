@@ -2,7 +2,6 @@
 use Rattle.std.specs.Prelude.{◌≡◌, ◌≢◌, ℕ, ◌<◌, ◌≤◌, List, [], ◌∷◌, ◌++◌, length, take}
 use Rattle.munge_types.specs.BigEndian.{be32}
 use Rattle.wire_msg.specs.FrameHead.{AllowsSize, message_head, head_size, side_of_kind}
-use Rattle.wire_msg.specs.declared.head.Head.{Head}
 use Rattle.wire_msg.specs.declared.head.Seen.{Seen}
 use Rattle.wire_msg.specs.declared.head.Seen.TheVariants.{Whole, Part, Broken}
 use Rattle.wire_msg.specs.declared.kind.Kind.{Kind}

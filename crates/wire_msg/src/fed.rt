@@ -7,7 +7,7 @@ use crate::Message;
 pub enum Fed {
     /// A whole frame, which ends after the first `used` bytes of the piece. Only these were taken.
     Message { message: Message, used: usize },
-    /// A frame that is not whole, or no byte of one. The piece was taken.
+    /// A frame that is not whole, or no byte of one. The whole piece was taken.
     More,
     /// Bytes of no frame, which would have begun at this place. Every further answer is the same.
     Bad(u64),

@@ -48,7 +48,7 @@ impl Model for Feeder {
 }
 
 impl Feeder {
-    /// A feeder of the messages of this side, at the begin of their stream. It takes no memory.
+    /// A feeder of the messages of this side, at the beginning of their stream. It takes no memory.
     pub fn new(alloc: Global, side: Side) -> Feeder
         ensures side { result.side ≡ side }
         ensures begins { result.begins ≡ 0 }
@@ -71,14 +71,16 @@ impl Feeder {
         self.begins
     }
 
-    /// Takes the next bytes of the stream, up to the end of a frame. After want of memory nothing
-    /// was taken.
+    /// Takes the next bytes of the stream, up to the end of a frame. The memory for a body is taken
+    /// once, when the head is whole, and a text or payload is copied once, from the piece. After want
+    /// of memory nothing was taken.
     pub fn feed(&mut self, piece: &[u8]) -> Result<Fed, NoMemory>
         ensures answers { IfOk result (Answers self.old piece.now) }
         ensures leaves { IfOk result (λ fed. Leaves self.old piece.now fed self.new) }
         ensures side { self.new.side ≡ self.old.side }
         ensures unchanged { OnErr result (self.new ≡ self.old) }
-        ensures wants_memory { OnErr result (LeadsToFrame self.old.side (bytes_with self.old piece.now)) }
+        ensures wants_memory { OnErr result
+            (LeadsToFrame self.old.side (bytes_with self.old piece.now)) }
 
         // So it is after Bad.
         ensures bad { IsNoFrame self.old.side (bytes_with self.old piece.now)
@@ -106,16 +108,19 @@ impl Feeder {
     }
 
     /// How many more bytes a frame needs at least. Until its head is whole these are the bytes that
-    /// the head lacks, and then those that the frame lacks. It takes no memory.
+    /// the head lacks, and then those that the frame lacks. After `Fed::Bad` it means nothing. It
+    /// takes no memory.
     pub fn wanted(&self) -> usize
-        ensures head { IsUnfinished self.now.side self.now.unfinished
-            → length self.now.unfinished < head_size
+        ensures head { length self.now.unfinished < head_size
             → result + length self.now.unfinished ≡ head_size }
         ensures least { (piece : List ℕ) → IsFrame self.now.side (bytes_with self.now piece)
             → result ≤ length piece }
         ensures enough { IsUnfinished self.now.side self.now.unfinished
             → head_size ≤ length self.now.unfinished → (piece : List ℕ) → IsBytes piece
             → length piece ≡ result → IsFrame self.now.side (bytes_with self.now piece) }
+        ensures fewer { IsUnfinished self.now.side self.now.unfinished
+            → head_size ≤ length self.now.unfinished → (piece : List ℕ) → IsBytes piece
+            → length piece < result → IsUnfinished self.now.side (bytes_with self.now piece) }
         ensures some { IsUnfinished self.now.side self.now.unfinished → 1 ≤ result }
     {
         match &self.begun {

@@ -1,4 +1,5 @@
-//! The parts of frames that have a fixed size, for who writes a frame into a buffer of his own.
+//! The parts of frames that have a fixed size, also for code that writes a frame into a buffer of
+//! its own.
 
 ghost use Rattle.std.specs.Prelude.{◌≡◌, ◌+◌, ◌^◌, ◌<◌, ◌≤◌, ◌++◌, length, take};
 ghost use Rattle.munge_types.specs.BigEndian.{be32};

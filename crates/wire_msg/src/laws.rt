@@ -22,8 +22,8 @@ pub fn no_frame_goes_on_to_another()
         → IsFrame side (frame ++ more) → more ≡ [] }
 {}
 
-/// Just one holds of any bytes: they begin with a whole frame, or are a prefix of one and not all of
-/// it, or neither.
+/// Just one holds of any bytes: they begin with a whole frame, or are a prefix of one and not all
+/// of it, or neither.
 pub fn just_one_holds()
     ensures one_does { (side : Side) (bytes : List ℕ) → IsBytes bytes
         → BeginsFrame side bytes ⊎ (IsUnfinished side bytes ⊎ IsNoFrame side bytes) }
@@ -31,6 +31,13 @@ pub fn just_one_holds()
         → IsUnfinished side bytes → ⊥ }
     ensures not_the_third_with_one { (side : Side) (bytes : List ℕ) → LeadsToFrame side bytes
         → IsNoFrame side bytes → ⊥ }
+{}
+
+/// No bytes are an unfinished frame, and so are the first bytes of any unfinished one.
+pub fn fronts_are_unfinished()
+    ensures none_yet { (side : Side) → IsUnfinished side [] }
+    ensures fewer { (side : Side) (bytes more : List ℕ) → IsUnfinished side (bytes ++ more)
+        → IsUnfinished side bytes }
 {}
 
 /// Bytes that are no frame's stay so, whatever comes after them.

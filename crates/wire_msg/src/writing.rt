@@ -39,7 +39,7 @@ impl fmt::Display for FrameRefused {
 
 impl Error for FrameRefused {}
 
-/// The frame of a message.
+/// The frame of a message, with its text or payload copied once.
 pub fn frame(alloc: Global, message: &Message) -> Result<Vec<u8>, FrameRefused>
     ensures frame { IfOk result (λ bytes. bytes.items ≡ frame_of message.now) }
     ensures fits { OnOk result (IsMessage (side_of message.now) message.now) }

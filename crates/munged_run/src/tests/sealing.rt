@@ -160,7 +160,7 @@ fn restricted_to_another_caller(rt: HostRuntime) -> Result<(), Fail> {
 
 #[test]
 fn refused_requests_draw_too(rt: HostRuntime) -> Result<(), Fail> {
-    for (cipher, mac, status) in [(1, 5, 10), (0, 2, 11), (1, 2, 10), (0, 0, 11)] {
+    for (cipher, mac, status) in [(2, 5, 10), (0, 2, 11), (3, 2, 10), (0, 0, 11), (5, 3, 11)] {
         let mut asked = Vec::from_slice(rt.alloc(), &[cipher, mac])?;
         asked.extend_from_slice(&[0xff; 12])?;
         let mut run = seeded(rt.alloc())?;

@@ -1,4 +1,4 @@
-use Rattle.std.proofs.Common.{arith, refl, ◌≡◌, ◌≤◌, ◌<◌, ◌++◌, ℕ, List, length, drop, ap, sym, ◌∙◌, inl, inr}
+use Rattle.std.proofs.Common.{arith, refl, ◌≤◌, length, drop, inl, inr}
 use Rattle.std.proofs.lemmas.Bool.{cases_lt}
 use Rattle.munge_types.specs.BigEndian.{be32}
 use Rattle.wire_msg.proofs.Sizes.{between, begins_so, exactly}

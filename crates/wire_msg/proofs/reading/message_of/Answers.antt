@@ -1,4 +1,4 @@
-use Rattle.std.proofs.Common.{arith, ap, ◌≡◌, ◌≤◌, ◌∙◌, ◌++◌, length, sym}
+use Rattle.std.proofs.Common.{arith, ap, ◌≤◌, ◌++◌, length, sym}
 use Rattle.std.proofs.lemmas.List.{length-append}
 use Rattle.wire_msg.proofs.Spelled.{allowed_within}
 use Rattle.wire_msg.specs.FrameHead.{body_limit, side_of_kind}

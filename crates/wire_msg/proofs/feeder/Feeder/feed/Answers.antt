@@ -1,10 +1,9 @@
-use Rattle.std.proofs.Common.{arith, refl, ap, sym, ◌∙◌, ◌≡◌, ◌++◌, ◌+◌, Ok, [], ℕ, ◌⊎◌}
+use Rattle.std.proofs.Common.{arith, refl, ap, sym, ◌∙◌, ◌≡◌, ◌++◌, Ok, ℕ, ◌⊎◌}
 use Rattle.std.specs.declared.option.Option.TheVariants.{None, Some}
 use Rattle.std.proofs.lemmas.Result.{IfErr-at_err, MatchResult-from_err, err_from_is_err_and}
-use Rattle.wire_msg.proofs.Answered.{answers_bad, came_none, came_some, came_whole, front_of, front_part, front_broken, front_whole}
+use Rattle.wire_msg.proofs.Answered.{answers_bad, came_none, came_some, came_whole, front_part, front_broken, front_whole}
 use Rattle.wire_msg.proofs.Frames.{no_frame, some_frame, unfinished_prefix}
 use Rattle.wire_msg.proofs.Waiting.{taken_out}
-use Rattle.wire_msg.specs.Begun.{came}
 use Rattle.wire_msg.specs.Frame.{BeginsFrame, IsUnfinished}
 use Rattle.wire_msg.proofs.feeder.Feeder.feed.Goals as goal
 

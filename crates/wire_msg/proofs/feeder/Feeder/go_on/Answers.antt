@@ -1,6 +1,6 @@
-use Rattle.std.proofs.Common.{arith, ◌≡◌, ◌+◌, ◌<◌, ◌≤◌, ◌++◌, length, ap, sym, ◌∙◌}
+use Rattle.std.proofs.Common.{arith, ◌<◌, length, ap, sym, ◌∙◌}
 use Rattle.wire_msg.proofs.Frames.{unfinished_laid}
-use Rattle.wire_msg.proofs.Going.{Went, left, went_all, went_on, went_more, went_within}
+use Rattle.wire_msg.proofs.Going.{Went, went_on, went_more, went_within}
 use Rattle.wire_msg.specs.Feeding.{Feeding}
 use Rattle.wire_msg.specs.FrameHead.{side_of_kind}
 use Rattle.wire_msg.specs.Head.{IsHead}

@@ -1,5 +1,5 @@
-use Rattle.std.proofs.Common.{arith, ◌<◌, length}
-use Rattle.wire_msg.proofs.Waiting.{body_enough, head_fewer, head_least, head_not_whole}
+use Rattle.std.proofs.Common.{arith}
+use Rattle.wire_msg.proofs.Waiting.{body_enough, body_fewer, head_fewer, head_least, head_not_whole}
 use Rattle.wire_msg.proofs.feeder.Feeder.wanted.Goals as goal
 
 pub returns-in-Some-clause-enough : goal.returns-in-Some-clause-enough
@@ -25,3 +25,15 @@ returns-in-None-clause-some c =
     (λ unfinished.
     let fewer = head_fewer c.self.inside.side c.self.inside.front c.self.inside.begun c.in-None.is c.self.invariant unfinished in
     omega arith)
+
+pub returns-in-Some-clause-fewer : goal.returns-in-Some-clause-fewer
+returns-in-Some-clause-fewer c =
+    rw (← c.self.view_is)
+    (λ unfinished whole piece. body_fewer c.self.inside.side c.self.inside.front c.self.inside.begun c.in-Some.begun c.missing.result
+    c.in-Some.is c.self.invariant c.missing.ensures.missing c.missing.ensures.bytes piece)
+
+pub returns-in-None-clause-fewer : goal.returns-in-None-clause-fewer
+returns-in-None-clause-fewer c =
+    rw (← c.self.view_is)
+    (λ unfinished whole. absurd
+    (head_not_whole c.self.inside.side c.self.inside.front c.self.inside.begun c.in-None.is c.self.invariant unfinished whole))
