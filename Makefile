@@ -1,19 +1,43 @@
 # munged, built with the kit's command `rt`.
-#   make run                 builds the program, runs the stored first session, and then seals a
-#                            credential and opens it twice, all of it frame by frame
-#   make install PREFIX=..   builds it and puts it into PREFIX/sbin as munged
+#   make run          proves and builds the program, with a line for each crate; then runs the stored
+#                     first session, and seals a credential and opens it twice, frame by frame
+#   make install      proves and builds it, and puts it into DESTDIR PREFIX/sbin as munged
+#   make uninstall    takes it away from there
+#   make check        looks over the documents, the tests' vectors and what is made from the sources
+#   make docs         makes again what documents have from the sources
+# Variables: PREFIX is where it is to run, DESTDIR a folder that stands for / while a package is made,
+# and CPU the processor to build for, in the kit's words: x86-64 (any), x86-64-v2 (what the kit takes
+# where CPU is empty) or x86-64-v3.
 PREFIX ?= /usr/local
+DESTDIR ?=
+CPU ?=
 PROGRAM = crates/munged_run
 BUILT = $(PROGRAM)/out/munged_run
+INSTALLED = $(DESTDIR)$(PREFIX)/sbin/munged
 
-.PHONY: run build install
+.PHONY: run build install uninstall check docs
 
 run: build
 	tools/first-session $(BUILT) $(PROGRAM)
 	tools/seal-and-open $(BUILT)
 
 build:
-	cd $(PROGRAM) && rt run -- session data/key 7 7 </dev/null
+	tools/build munged_run $(CPU) -- session data/key 7 7
 
 install: build
-	install -D -m 0755 $(BUILT) $(DESTDIR)$(PREFIX)/sbin/munged
+	install -D -m 0755 $(BUILT) $(INSTALLED)
+
+uninstall:
+	rm -f $(INSTALLED)
+
+check:
+	@mkdir -p build; failed=0; \
+	for tool in "crate-tree --check" "definitions --check" "vectors --check" check-links; do \
+	    tools/$$tool >build/check.log || { failed=1; cat build/check.log; }; \
+	done; \
+	exit $$failed
+
+docs:
+	tools/crate-tree
+	tools/definitions
+	tools/check-links --fix
