@@ -1,5 +1,6 @@
 //! The program of munged: `munged session KEYFILE UID GID [SEEDFILE]` answers the encode and decode
 //! requests of its standard input on its standard output. Without a seed file nothing is sealed.
+//! `munged --help` and `munged --version` say what it is.
 #![tactic(auto)]
 
 mod command;
@@ -13,9 +14,30 @@ mod tests;
 use byte_io::{DiskFiles, StdSink, StdSource, SystemClock};
 use exit::Exit;
 use run::munged_run;
-use std::io::ErrorKind;
+use std::io::{BufReader, ErrorKind, Write};
 use std::process::ExitCode;
 use std::{env, io};
+
+/// What `munged --help` prints.
+const HELP: &str = "\
+munged: seals credentials and opens them, each at most once
+
+  munged session KEYFILE UID GID [SEEDFILE]
+      answers the encode and decode requests of standard input on standard
+      output, for the caller with this UID and GID, under the key in KEYFILE;
+      salts and vectors are drawn from SEEDFILE (/dev/urandom, say), without
+      which nothing is sealed
+  munged --help
+  munged --version
+
+Exit statuses: 0 the input was read to its end; 1 the words are no command;
+2 a file could not be read; 3 a key or seed file of a wrong size; 5 the input,
+6 the output or 7 the clock failed; 9 what came is no request; 10 no memory;
+11 1048576 requests were answered.
+";
+
+/// What `munged --version` prints.
+const VERSION: &str = "munged 0.1\n";
 
 /// The words of the command line without the program's name, or how the program ends without them.
 fn words_of(rt: &HostRuntime) -> Result<Vec<String>, Exit> {
@@ -34,13 +56,36 @@ fn exit_without_words(e: &io::Error) -> Exit {
     }
 }
 
+/// What a word alone asks to be told of the program, if it is `--help` or `--version`.
+fn told_by(words: &[String]) -> Option<&'static str> {
+    match words {
+        [word] if word.as_str() == "--help" => Some(HELP),
+        [word] if word.as_str() == "--version" => Some(VERSION),
+        _ => None,
+    }
+}
+
+/// Prints a text on standard output.
+fn tell(rt: &HostRuntime, text: &str) -> Exit {
+    match rt.stdout().write_all(text.as_bytes()) {
+        Ok(()) => Exit::Done,
+        Err(_) => Exit::WriteFault,
+    }
+}
+
 fn main(rt: HostRuntime) -> ExitCode {
     let words = match words_of(&rt) {
         Ok(words) => words,
         Err(exit) => return ExitCode::from(exit.status()),
     };
+    if let Some(text) = told_by(&words) {
+        return ExitCode::from(tell(&rt, text).status());
+    }
+    let Ok(stdin) = BufReader::new(rt.alloc(), rt.stdin()) else {
+        return ExitCode::from(Exit::NoMemory.status());
+    };
     let mut files = DiskFiles::new(rt);
-    let mut input = StdSource::new(rt.stdin());
+    let mut input = StdSource::new(stdin);
     let mut out = StdSink::new(rt.stdout());
     let mut err = StdSink::new(rt.stderr());
     let mut clock = SystemClock::new(rt);
