@@ -1,5 +1,5 @@
-//! Sessions over credentials under AES. `tools/vectors --credential` makes their texts, for a key
-//! file and a seed of 32 zeros and the caller 7, 7.
+//! Sessions over credentials under AES. Their texts come from the option `--credential` of the
+//! repository's script of vectors, for a key file and a seed of 32 zeros and the caller 7, 7.
 
 use super::fixture::{NOWHERE, Outcome, Run};
 use std::alloc::{AllocError, Global};
