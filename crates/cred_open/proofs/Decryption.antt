@@ -1,5 +1,5 @@
 -- What decryption makes of a sealed part.
-use Rattle.std.proofs.Common.{◌≡◌, ℕ, ◌+◌, ◌%◌, ◌<◌, ◌≤◌, List, ◌++◌, length, take, refl, sym, ap, ◌∙◌, arith}
+use Rattle.std.proofs.Common.{◌≡◌, ℕ, ◌<◌, List, length, take, refl, sym, ap, ◌∙◌, arith}
 use Rattle.std.proofs.lemmas.List.{take_all}
 use Rattle.std.specs.List.{All}
 use Rattle.std.specs.Option.{IfSome, IfNone}
@@ -11,7 +11,7 @@ use Rattle.munge_types.specs.declared.algorithms.MacKind.{MacKind}
 use Rattle.cbc_mode.specs.Cbc.{cbc, IsBlocks}
 use Rattle.cbc_mode.specs.Padding.{padded}
 use Rattle.subkeys.specs.DataKey.{data_key_of, data_key_under}
-use Rattle.subkeys.specs.Subkeys.{SubkeyPair, IsOf, cipher_subkey}
+use Rattle.subkeys.specs.Subkeys.{SubkeyPair, IsOf}
 use Rattle.munge_types.specs.Bytes.{IsBytes}
 use Rattle.cred_outer.specs.OuterPart.{vector_size}
 use Rattle.cred_open.specs.Body.{Seals}

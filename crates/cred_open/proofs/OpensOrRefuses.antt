@@ -15,7 +15,7 @@ use Rattle.cred_inner.specs.InnerPart.{Content, IsContent, inner_part, numbers}
 use Rattle.cred_outer.specs.BodyParts.{AreParts}
 use Rattle.cred_outer.specs.OuterPart.{outer_part}
 use Rattle.cred_outer.specs.OuterRules.{first_broken, outer_rules}
-use Rattle.cred_open.specs.Body.{IsBody, Seals, mac_of}
+use Rattle.cred_open.specs.Body.{Seals, mac_of}
 use Rattle.cred_open.specs.OpeningRules.{Opens, Refuses}
 use Rattle.cred_open.specs.Unsealed.{IsUnsealed}
 use Rattle.cred_open.proofs.Bodies.{BodyLaws, cut_as}

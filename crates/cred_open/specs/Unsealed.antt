@@ -7,7 +7,8 @@ use Rattle.cred_outer.specs.OuterRules.{first_broken, outer_rules}
 use Rattle.cred_open.specs.Body.{IsBody, mac_of}
 
 -- the body breaks none of the rules 1 to 8, and this inner part gives it, with this MAC
-pub record IsUnsealed (key body : List ℕ) (cipher : Cipher) (kind : MacKind) (mac inner : List ℕ) : Type 0 where
+pub record IsUnsealed
+    (key body : List ℕ) (cipher : Cipher) (kind : MacKind) (mac inner : List ℕ) : Type 0 where
   pub vector : List ℕ
   pub unbroken : first_broken (outer_rules body) ≡ None
   pub sealed : IsBody key cipher kind vector inner body

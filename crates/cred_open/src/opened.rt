@@ -35,7 +35,9 @@ impl Model for Opened {
       cipher = opened.cipher;
       kind = opened.kind;
       mac = opened.mac;
-      content = record (content_of opened.head) { payload = drop opened.payload_at opened.body.items };
+      content = record (content_of opened.head) {
+        payload = drop opened.payload_at opened.body.items;
+      };
     } };
 
     ghost invariant = { λ opened. (opened.payload_at ≤ length opened.body.items)

@@ -1,9 +1,9 @@
 -- A body that was written and encrypted where it stands.
-use Rattle.std.proofs.Common.{◌≡◌, ℕ, zero, suc, ◌+◌, ◌-◌, ◌%◌, ◌<◌, ◌≤◌, false, true, List, [], ◌∷◌, ◌++◌, length, take, drop, replicate, refl, sym, ap, ◌∙◌, arith}
+use Rattle.std.proofs.Common.{◌≡◌, ℕ, zero, suc, ◌+◌, ◌%◌, true, List, [], ◌∷◌, ◌++◌, length, take, drop, replicate, refl, sym, ap, ◌∙◌, arith}
 use Rattle.std.proofs.Math.Seq.{take-append_seam, drop-append_seam}
 use Rattle.std.proofs.lemmas.Bool.{lt-ltb, eq-eqb}
 use Rattle.std.proofs.lemmas.List.{append_assoc, append-nil, length-append, length-drop, take-append-drop, take_all, drop_all, length-take-le, take-replicate}
-use Rattle.munge_types.specs.Algorithms.{cipher_number, mac_number, mac_size}
+use Rattle.munge_types.specs.Algorithms.{cipher_number, mac_size}
 use Rattle.munge_types.specs.declared.algorithms.Cipher.{Cipher}
 use Rattle.munge_types.specs.declared.algorithms.Cipher.TheVariants as ciphers
 use Rattle.munge_types.specs.declared.algorithms.MacKind.{MacKind}
@@ -36,7 +36,7 @@ padded_written : (old inner mid out : List ℕ) (n byte : ℕ) → mid ≡ old +
 unfolding padded
 padded_written old inner mid out n byte mid_is out_is n_is byte_is =
     let padding : take n (replicate 16 byte) ≡ replicate (pad_size (length inner)) (pad_size (length inner)) =
-        rw (n_is, byte_is) (take-replicate (pad_size (length inner)) 16 (pad_size (length inner)) (omega arith)) in
+    rw (n_is, byte_is) (take-replicate (pad_size (length inner)) 16 (pad_size (length inner)) (omega arith)) in
     out_is ∙ (rw (mid_is, padding) (append_assoc old inner (replicate (pad_size (length inner)) (pad_size (length inner)))))
 
 pub plain_written : (cipher : Cipher) (old inner mid out : List ℕ) (n byte : ℕ) → (cipher ≡ ciphers.None → ⊥)

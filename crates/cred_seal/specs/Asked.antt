@@ -2,6 +2,7 @@
 use Rattle.std.specs.Prelude.{ℕ, nat_eq, ◌||◌, cond, List}
 use Rattle.std.specs.declared.option.Option.{Option}
 use Rattle.std.specs.declared.option.Option.TheVariants.{None, Some}
+use Rattle.munge_types.specs.Algorithms.{cipher_number, mac_number}
 use Rattle.munge_types.specs.declared.algorithms.Cipher.{Cipher}
 use Rattle.munge_types.specs.declared.algorithms.Cipher.TheVariants as cipher
 use Rattle.munge_types.specs.declared.algorithms.MacKind.{MacKind}
@@ -32,13 +33,17 @@ asked_of request =
       payload = request.payload.now;
     }
 
--- the cipher that a number asks for: 0 for none, 4 for AES-128, which is the default that 1 asks
--- for, and 5 for AES-256
+-- the number that asks for the default
+abbrev pub default : ℕ
+default = 1
+
+-- the cipher that a number asks for: its own number does, and the default is AES-128
 abbrev pub cipher_asked : ℕ → Option Cipher
 cipher_asked number =
-    cond (nat_eq number 0) (Some cipher.None)
-    (cond (nat_eq number 4 || nat_eq number 1) (Some cipher.Aes128)
-    (cond (nat_eq number 5) (Some cipher.Aes256) None))
+    cond (nat_eq number (cipher_number cipher.None)) (Some cipher.None)
+    (cond (nat_eq number (cipher_number cipher.Aes128) || nat_eq number default)
+    (Some cipher.Aes128)
+    (cond (nat_eq number (cipher_number cipher.Aes256)) (Some cipher.Aes256) None))
 
 -- SHA-1, but with AES-256: such a key has 32 bytes, and SHA-1 gives 20
 abbrev pub sha1_with : Cipher → Option MacKind
@@ -46,9 +51,9 @@ sha1_with cipher.None = Some Sha1
 sha1_with cipher.Aes128 = Some Sha1
 sha1_with cipher.Aes256 = None
 
--- the MAC that a number asks for with a cipher: 3 for SHA-1, 5 for SHA-256, which is the default
--- that 1 asks for, and 6 for SHA-512
+-- the MAC that a number asks for with a cipher: its own number does, and the default is SHA-256
 abbrev pub mac_asked : Cipher → ℕ → Option MacKind
 mac_asked cipher number =
-    cond (nat_eq number 3) (sha1_with cipher)
-    (cond (nat_eq number 5 || nat_eq number 1) (Some Sha256) (cond (nat_eq number 6) (Some Sha512) None))
+    cond (nat_eq number (mac_number Sha1)) (sha1_with cipher)
+    (cond (nat_eq number (mac_number Sha256) || nat_eq number default) (Some Sha256)
+    (cond (nat_eq number (mac_number Sha512)) (Some Sha512) None))

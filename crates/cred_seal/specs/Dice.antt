@@ -21,7 +21,8 @@ salt_at seed place = word seed place ++ word seed (place + 1)
 -- the initial vector that is drawn with it: the four words behind
 abbrev pub vector_at : (seed : List ℕ) → (place : ℕ) → List ℕ
 vector_at seed place =
-    word seed (place + 2) ++ (word seed (place + 3) ++ (word seed (place + 4) ++ word seed (place + 5)))
+    word seed (place + 2) ++ (word seed (place + 3)
+    ++ (word seed (place + 4) ++ word seed (place + 5)))
 
 -- the place of the next draw
 abbrev pub next_place : ℕ → ℕ

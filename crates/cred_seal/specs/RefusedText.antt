@@ -7,5 +7,6 @@ use Rattle.cred_seal.specs.declared.sealing.SealRefused.TheVariants.{BadCipher, 
 abbrev pub refused_text : SealRefused → List ℕ
 refused_text BadCipher = codes "cipher not supported"
 refused_text BadMac = codes "MAC not supported"
-refused_text (BadLength size) = codes "a payload of " ++ (decimal size ++ codes " bytes is too long")
+refused_text (BadLength size) =
+    codes "a payload of " ++ (decimal size ++ codes " bytes is too long")
 refused_text NoMemory = codes "no memory"

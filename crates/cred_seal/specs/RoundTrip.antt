@@ -15,4 +15,5 @@ pub record OpensTo (key : List ℕ) (content : Content) (text : List ℕ) : Type
 -- so does the text with any spaces round it
 abbrev pub OpensInSpaces : (key : List ℕ) → Content → (text : List ℕ) → Type 0
 OpensInSpaces key content text =
-    (before after : List ℕ) → AreSpaces before → AreSpaces after → OpensTo key content (before ++ (text ++ after))
+    (before after : List ℕ) → AreSpaces before → AreSpaces after
+    → OpensTo key content (before ++ (text ++ after))

@@ -9,7 +9,7 @@ use Rattle.cred_seal.specs.Asked.{Asked, cipher_asked, mac_asked}
 use Rattle.cred_seal.specs.declared.sealing.SealRefused.{SealRefused}
 use Rattle.cred_seal.specs.declared.sealing.SealRefused.TheVariants.{BadCipher, BadMac, BadLength, NoMemory}
 
--- the first cause to refuse a request: there is no such cipher, there is no such MAC with it, or the
+-- the first cause to refuse a request: there is no such cipher, or no such MAC with it, or the
 -- payload is too long
 abbrev pub first_refusal : Asked → Option SealRefused
 first_refusal asked = by_cipher (cipher_asked asked.cipher)

@@ -12,6 +12,9 @@ use crate::{SealRefused, SealRequest};
 use cred_inner::PAYLOAD_LIMIT;
 use munge_types::{Cipher, MacKind, Settings};
 
+/// The number of the default cipher and of the default MAC.
+const DEFAULT: u8 = 1;
+
 /// The time to live, in seconds, of which a request has none.
 const DEFAULT_TTL: u32 = 0;
 
@@ -50,7 +53,7 @@ fn cipher_asked(number: u8) -> Option<Cipher>
 {
     match number {
         0 => Some(Cipher::None),
-        4 | 1 => Some(Cipher::Aes128),
+        4 | DEFAULT => Some(Cipher::Aes128),
         5 => Some(Cipher::Aes256),
         _ => None,
     }
@@ -64,7 +67,7 @@ fn mac_asked(cipher: Cipher, number: u8) -> Option<MacKind>
 {
     match number {
         3 => sha1_with(cipher),
-        5 | 1 => Some(MacKind::Sha256),
+        5 | DEFAULT => Some(MacKind::Sha256),
         6 => Some(MacKind::Sha512),
         _ => None,
     }

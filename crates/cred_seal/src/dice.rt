@@ -73,7 +73,8 @@ impl Dice {
 
     /// The next two words, each as four big-endian bytes.
     fn two_words(&mut self) -> [u8; 8]
-        ensures value { result ≡ word self.old.seed self.old.place ++ word self.old.seed (self.old.place + 1) }
+        ensures value { result
+            ≡ word self.old.seed self.old.place ++ word self.old.seed (self.old.place + 1) }
         ensures goes_on { self.new ≡ record self.old { place = (self.old.place + 2) % 2 ^ 68 } }
     {
         let mut bytes = [0; 8];

@@ -1,4 +1,5 @@
-//! Sealing by worked requests. The text comes from Python's `hmac`, `hashlib` and `base64`.
+//! Sealing by worked requests. The texts come from Python: MACs and keys from its `hmac` and `hashlib`,
+//! encryption from `cryptography`, the salt and the vector from the ChaCha20 of `cryptography`.
 
 use crate::asked::stored_ttl;
 use crate::{SealRefused, SealRequest, seal};
@@ -61,58 +62,106 @@ fn assert_refused(
 #[test]
 fn smallest_credentials(rt: HostRuntime) -> Result<(), Fail> {
     let subkeys = Subkeys::of(&KEY)?;
-    let table: [(u8, &[u8], usize); 4] = [
+    let table: [(u8, u8, &[u8]); 10] = [
         (
+            0,
             3,
             b"MUNGE:AwADAAAb+xplOHh3GqFFfxKwAMjWcurUQ63guHaQPfGgBAAAAAAAAAPoAAABLAAAAAcAAAAH//////////8AAAAA:",
-            95,
         ),
         (
+            0,
             5,
             b"MUNGE:AwAFAADhMiyL+m7FLrtAbdjwKCA+Sx/kbat52oPA4UtrxjqF/q3guHaQPfGgBAAAAAAAAAPoAAABLAAAAAcAAAAH//////////8AAAAA:",
-            111,
+        ),
+        (
+            0,
+            1,
+            b"MUNGE:AwAFAADhMiyL+m7FLrtAbdjwKCA+Sx/kbat52oPA4UtrxjqF/q3guHaQPfGgBAAAAAAAAAPoAAABLAAAAAcAAAAH//////////8AAAAA:",
+        ),
+        (
+            0,
+            6,
+            b"MUNGE:AwAGAAC1SgZWTA1oilneEEDjl8PRWeZVzI3JPybYN8UUGHMAxZ5vnGtIv7FUiakqgn/2JLJ+PRnemV7otQ9g6sa1+I87reC4dpA98aAEAAAAAAAAA+gAAAEsAAAABwAAAAf//////////wAAAAA=:",
+        ),
+        (
+            4,
+            3,
+            b"MUNGE:AwQDAADlal1AKL2GU7gZ0r0a7Y2gULmG7fH/zUvQolM56YjJJ0KYYkrM6OHE+TRpBMsyGmUBWKwG4Y/xOdauQZnEOBsBl0dgJDnQia69kkOWTR8Wf/qWvLo=:",
+        ),
+        (
+            4,
+            5,
+            b"MUNGE:AwQFAADlal1AKL2GU7gZ0r0a7Y2gyUmJJl8z9IyBQwOJ0gj+WlqmrG0HeopHOuvc2KatM9UEeKmRvXWhVeznd0h6H+50mlk7m2AHAgFipYup+rSAzJ99xZIM6uY6fne0JS2Tu94=:",
         ),
         (
             1,
-            b"MUNGE:AwAFAADhMiyL+m7FLrtAbdjwKCA+Sx/kbat52oPA4UtrxjqF/q3guHaQPfGgBAAAAAAAAAPoAAABLAAAAAcAAAAH//////////8AAAAA:",
-            111,
+            1,
+            b"MUNGE:AwQFAADlal1AKL2GU7gZ0r0a7Y2gyUmJJl8z9IyBQwOJ0gj+WlqmrG0HeopHOuvc2KatM9UEeKmRvXWhVeznd0h6H+50mlk7m2AHAgFipYup+rSAzJ99xZIM6uY6fne0JS2Tu94=:",
         ),
         (
+            1,
             6,
-            b"MUNGE:AwAGAAC1SgZWTA1oilneEEDjl8PRWeZVzI3JPybYN8UUGHMAxZ5vnGtIv7FUiakqgn/2JLJ+PRnemV7otQ9g6sa1+I87reC4dpA98aAEAAAAAAAAA+gAAAEsAAAABwAAAAf//////////wAAAAA=:",
-            155,
+            b"MUNGE:AwQGAADlal1AKL2GU7gZ0r0a7Y2gHbrTNFfvcXG0aXskicFpxE88A4k8XgN5TmNhS94iRPSrG1UaWOy/IJGyls0CuGGyLXyWgz9C63OvIW7xhQ4vBTdNun/J5cNDo2yWTSnMlP+f8/q53uFuO7VplupQBUqXmY25UQ6gYfdu3OAMx0BXVg==:",
+        ),
+        (
+            5,
+            5,
+            b"MUNGE:AwUFAADlal1AKL2GU7gZ0r0a7Y2gyAsVcDjX/iSgPgsa0BJmkPKRVHKM7XGyOQbmpqBOd8H2xp2mIilbaJZvy8WaGCXXHrNQ0ETp8pc69fWD2ULUEJixzDpL2fU3IV1Rjg8bRd4=:",
+        ),
+        (
+            5,
+            6,
+            b"MUNGE:AwUGAADlal1AKL2GU7gZ0r0a7Y2gn/9KIfKleW7e1Q4M+rZLoNMMaW6sQNo8MmrlBC3kmopmSHxoNRnNMC59HHJ3wg8xUchQVNSnboTp/pVH54beMt2nRUaGJw96+YcOjj4dHA2gB36/h7m8iPcmHQzcOwlkUgt4WBBZabXGivvFr+8GPQ==:",
         ),
     ];
-    for (kind, text, size) in table {
-        let request = SealRequest { kind, ..REQUEST };
+    for (cipher, kind, text) in table {
+        let request = SealRequest {
+            cipher,
+            kind,
+            ..REQUEST
+        };
         assert_eq!(rt;
             sealed(rt.alloc(), &subkeys, &request, 7, 7)?.as_slice(),
             text,
-            "with the MAC {kind}"
+            "with the cipher {cipher} and the MAC {kind}"
         );
-        assert_eq!(rt; text.len(), size);
     }
     Ok(())
 }
 
 #[test]
-fn what_was_sealed_opens(rt: HostRuntime) -> Result<(), Fail> {
+fn usual_credential(rt: HostRuntime) -> Result<(), Fail> {
     let subkeys = Subkeys::of(&KEY)?;
     let request = SealRequest {
-        ttl: u32::MAX,
-        for_uid: 9,
-        for_gid: 10,
+        cipher: 4,
         payload: b"hello",
         ..REQUEST
     };
-    let text = sealed(rt.alloc(), &subkeys, &request, 7, 8)?;
-    let mut in_spaces = Vec::from_slice(rt.alloc(), b" \t\n")?;
-    in_spaces.extend_from_slice(&text)?;
+    let text = sealed(rt.alloc(), &subkeys, &request, 7, 7)?;
+    assert_eq!(rt; text.len(), 143);
+    assert_eq!(rt;
+        text.as_slice(),
+        b"MUNGE:AwQFAADlal1AKL2GU7gZ0r0a7Y2gZdOW0dtIZnPPrjS6h3x2aomh8ZNQVH6NmOcaPRwS8mjed530PxWTNeODkFayJ+4ddvj+VTK0PF2qdcCP1XSD2VKm4Mz/XqmVx2UOiIvzOCA=:".as_slice()
+    );
+    Ok(())
+}
+
+/// The text, with and without spaces round it, opens to what was asked for by these algorithms.
+fn assert_opens(
+    rt: &impl Abort,
+    alloc: Global,
+    subkeys: &Subkeys,
+    text: &[u8],
+    cipher: Cipher,
+    kind: MacKind,
+) -> Result<(), Fail> {
+    let mut in_spaces = Vec::from_slice(alloc, b" \t\n")?;
+    in_spaces.extend_from_slice(text)?;
     in_spaces.extend_from_slice(b"\r\n")?;
-    for spelling in [text.as_slice(), in_spaces.as_slice()] {
-        let opened = open_text(rt.alloc(), &subkeys, spelling)?;
-        assert_eq!(rt; opened.cipher(), Cipher::None);
-        assert_eq!(rt; opened.kind(), MacKind::Sha256);
+    for spelling in [text, in_spaces.as_slice()] {
+        let opened = open_text(alloc, subkeys, spelling)?;
+        assert_eq!(rt; opened.cipher(), cipher);
+        assert_eq!(rt; opened.kind(), kind);
         let inner = opened.inner();
         assert_eq!(rt; inner.salt, SALT);
         assert_eq!(rt; inner.addr, [0; 4]);
@@ -125,9 +174,33 @@ fn what_was_sealed_opens(rt: HostRuntime) -> Result<(), Fail> {
 }
 
 #[test]
+fn what_was_sealed_opens(rt: HostRuntime) -> Result<(), Fail> {
+    let subkeys = Subkeys::of(&KEY)?;
+    let table = [
+        (0, Cipher::None, 3, MacKind::Sha1),
+        (1, Cipher::Aes128, 1, MacKind::Sha256),
+        (4, Cipher::Aes128, 3, MacKind::Sha1),
+        (5, Cipher::Aes256, 6, MacKind::Sha512),
+    ];
+    for (cipher_number, cipher, kind_number, kind) in table {
+        let request = SealRequest {
+            cipher: cipher_number,
+            kind: kind_number,
+            ttl: u32::MAX,
+            for_uid: 9,
+            for_gid: 10,
+            payload: b"hello",
+        };
+        let text = sealed(rt.alloc(), &subkeys, &request, 7, 8)?;
+        assert_opens(&rt, rt.alloc(), &subkeys, &text, cipher, kind)?;
+    }
+    Ok(())
+}
+
+#[test]
 fn each_refusal(rt: HostRuntime) -> Result<(), Fail> {
     let alloc = rt.alloc();
-    for cipher in [1, 2, 4, 5, 255] {
+    for cipher in [2, 3, 6, 255] {
         let request = SealRequest {
             cipher,
             kind: 0,
@@ -145,6 +218,13 @@ fn each_refusal(rt: HostRuntime) -> Result<(), Fail> {
         assert_refused(&rt, alloc, &request, SealRefused::BadMac)?;
     }
     let request = SealRequest {
+        cipher: 5,
+        kind: 3,
+        payload: &payload,
+        ..REQUEST
+    };
+    assert_refused(&rt, alloc, &request, SealRefused::BadMac)?;
+    let request = SealRequest {
         payload: &payload,
         ..REQUEST
     };
@@ -155,15 +235,24 @@ fn each_refusal(rt: HostRuntime) -> Result<(), Fail> {
 fn largest_payload(rt: HostRuntime) -> Result<(), Fail> {
     let subkeys = Subkeys::of(&KEY)?;
     let payload = vec![in rt.alloc(); 0x5a; 1_048_576]?;
-    let request = SealRequest {
-        payload: &payload,
-        ..REQUEST
-    };
-    let text = sealed(rt.alloc(), &subkeys, &request, 7, 7)?;
-    assert_eq!(rt; text.len(), 1_398_215);
-    let opened = open_text(rt.alloc(), &subkeys, &text)?;
-    let same = opened.inner().payload == payload.as_slice();
-    assert!(rt; same);
+    let table: [(u8, u8, usize, &[u8]); 2] = [
+        (0, 5, 1_398_215, b"lpaWg==:"),
+        (5, 6, 1_398_287, b"SwQt+jD9XD4rCXXGR/Shgco=:"),
+    ];
+    for (cipher, kind, size, end) in table {
+        let request = SealRequest {
+            cipher,
+            kind,
+            payload: &payload,
+            ..REQUEST
+        };
+        let text = sealed(rt.alloc(), &subkeys, &request, 7, 7)?;
+        assert_eq!(rt; text.len(), size);
+        assert!(rt; text.ends_with(end));
+        let opened = open_text(rt.alloc(), &subkeys, &text)?;
+        let same = opened.inner().payload == payload.as_slice();
+        assert!(rt; same);
+    }
     Ok(())
 }
 

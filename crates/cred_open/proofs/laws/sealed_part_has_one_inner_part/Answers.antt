@@ -1,4 +1,4 @@
-use Rattle.cred_open.proofs.Bodies.{SealingLaws, inner_once}
+use Rattle.cred_open.proofs.Bodies.{inner_once}
 use Rattle.cred_open.proofs.laws.sealed_part_has_one_inner_part.Goals as goal
 
 pub returns : goal.returns

@@ -1,4 +1,4 @@
-use Rattle.std.proofs.Common.{◌≡◌, ◌-◌, ℕ, List, length, take, drop, sym, ap, ◌∙◌, arith}
+use Rattle.std.proofs.Common.{◌≡◌, ◌-◌, length, take, drop, sym, ap, ◌∙◌, arith}
 use Rattle.cred_inner.specs.Inner.{content_of}
 use Rattle.cred_open.specs.OpeningRules.{Refuses}
 use Rattle.cred_open.specs.Unsealed.{IsUnsealed}

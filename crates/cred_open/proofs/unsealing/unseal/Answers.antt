@@ -1,12 +1,10 @@
-use Rattle.std.proofs.Common.{◌≡◌, ◌-◌, ℕ, List, length, take, drop, refl, sym, ◌∙◌, ap, rules}
+use Rattle.std.proofs.Common.{◌≡◌, ℕ, List, take, sym, ◌∙◌, ap}
 use Rattle.std.proofs.Math.Seq.{drop-append_seam}
 use Rattle.std.proofs.lemmas.Result.{err_from_is_err_and}
 use Rattle.std.proofs.lemmas.Bool.{both_ways}
-use Rattle.hmac_core.specs.Hmac.{hmac}
-use Rattle.cred_open.specs.Body.{mac_of}
 use Rattle.cred_open.specs.OpeningRules.{Refuses}
 use Rattle.cred_open.proofs.Bodies.{BodyLaws}
-use Rattle.cred_open.proofs.OpensOrRefuses.{ArePieces, pieces, refuses_unpadded, refuses_forged, decrypted_as, unseals, front_bytes}
+use Rattle.cred_open.proofs.OpensOrRefuses.{pieces, refuses_unpadded, refuses_forged, decrypted_as, unseals, front_bytes}
 use Rattle.cred_open.proofs.unsealing.unseal.Goals as goal
 
 pub returns-in_err-outer-clause-refused : goal.returns-in_err-outer-clause-refused

@@ -1,4 +1,4 @@
-use Rattle.std.proofs.Common.{◌≡◌, List, ℕ, ◌++◌, take, refl, sym, ap, ◌∙◌, rules}
+use Rattle.std.proofs.Common.{◌≡◌, sym, ap, ◌∙◌, rules}
 use Rattle.munge_types.specs.declared.algorithms.Cipher.TheVariants as ciphers
 use Rattle.cbc_mode.specs.Padding.{pad_size}
 use Rattle.cred_inner.specs.Inner.{content_of}

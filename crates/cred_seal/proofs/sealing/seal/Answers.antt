@@ -1,4 +1,4 @@
-use Rattle.std.proofs.Common.{length, refl, arith}
+use Rattle.std.proofs.Common.{refl}
 use Rattle.cred_seal.specs.Asked.{asked_of}
 use Rattle.cred_seal.proofs.RoundTrips.{spelled_in_spaces, opens_to}
 use Rattle.cred_seal.proofs.SealedTexts.{sealed_as, text_within}
