@@ -1,4 +1,4 @@
+pub mod Completeness
 pub mod NumberLemmas
 pub mod RunLemmas
 pub mod StreamOfRequests
-pub mod Completeness

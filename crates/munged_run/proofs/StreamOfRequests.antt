@@ -1,64 +1,87 @@
 -- A stream of whole requests is read in one way, and is never malformed.
-use Rattle.std.proofs.Common.{◌≡◌, ℕ, ◌<◌, ◌≤◌, ◌^◌, inl, inr, List, [], ◌∷◌, ◌++◌, length, get_or, take, drop, refl, sym, ap, ◌∙◌, arith, take-append-drop}
+use Rattle.std.proofs.Common.{◌≡◌, ◌≢◌, ℕ, ◌+◌, ◌<◌, ◌≤◌, ◌⊎◌, inl, inr, List, [], ◌∷◌, ◌++◌, length, take, drop, refl, sym, ap, ◌∙◌, subst, arith, take-append-drop}
 use Rattle.std.proofs.lemmas.Bool.Decides.{leb_tells}
-use Rattle.std.proofs.lemmas.List.{append_assoc, append-nil, take_at, drop_at, take-append-le}
-use Rattle.std.proofs.lemmas.Nat.{from_be_bytes-to_be_bytes_4}
-use Rattle.std.specs.Int.{w32, from_be_bytes}
+use Rattle.std.proofs.lemmas.List.{append_assoc, append-nil, length-append, take_at, drop_at, take-append-le}
 use Rattle.std.specs.List.{AllByRecursion}
-use Rattle.munge_types.specs.BigEndian.{be32}
-use Rattle.session_core.specs.ClientMessage.{Request, Encode, Decode, IsRequest, message, message_head, messages, body_limit, BeginsRequest, IsRequestPrefix}
-use Rattle.session_core.specs.Reading.{IsNoRequest}
+use Rattle.wire_msg.specs.Fits.{IsMessage}
+use Rattle.wire_msg.specs.Frame.{BeginsFrame, IsFrame, IsFramePrefix}
+use Rattle.wire_msg.specs.FrameHead.{head_size}
+use Rattle.wire_msg.specs.Spelling.{frame_of, body_of}
+use Rattle.wire_msg.specs.declared.kind.Side.{Side}
+use Rattle.wire_msg.specs.declared.kind.Side.TheVariants.{Requests}
+use Rattle.wire_msg.specs.declared.message.Message.{Message}
+use Rattle.session_core.specs.Reading.{IsNoRequest, IsLessThanOne, broken, cut}
+use Rattle.session_core.specs.Requests.{IsRequest, frames}
 
--- each body has a length that its request may have
-abbrev pub AllFit : List Request → Type 0
+-- what is known of frames
+pub record FrameLaws : Type 0 where
+  pub one : (side other : Side) (first second : Message) → IsMessage side first
+      → IsMessage other second → frame_of first ≡ frame_of second → first ≡ second
+  pub apart : (side : Side) (frame more : List ℕ) → IsFrame side frame
+      → IsFrame side (frame ++ more) → more ≡ []
+
+-- each is a request
+abbrev pub AllFit : List Message → Type 0
 AllFit requests = AllByRecursion IsRequest requests
 
-be32_injective : (m n : ℕ) → m < 2 ^ 32 → n < 2 ^ 32 → be32 m ≡ be32 n → m ≡ n
-be32_injective m n m_fits n_fits same =
-    sym (from_be_bytes-to_be_bytes_4 m m_fits) ∙ ap (from_be_bytes w32) same ∙ from_be_bytes-to_be_bytes_4 n n_fits
+-- of two lists in front of others in one list, the longer goes on from the shorter
+goes_on : (a b x y : List ℕ) → length a ≤ length b → a ++ x ≡ b ++ y
+    → b ≡ a ++ drop (length a) b
+goes_on a b x y short same =
+    let n = length a in
+    let front : a ≡ take n b =
+    sym (take_at a x n refl) ∙ ap (take n) same ∙ take-append-le n b y short in
+    sym (take-append-drop n b) ∙ ap (λ l. l ++ drop n b) (sym front)
 
--- two lists of one length in front of others
-parts_same : (a b x y : List ℕ) → length a ≡ length b → a ++ x ≡ b ++ y → (a ≡ b) × (x ≡ y)
-parts_same a b x y sized same = (
-  sym (take_at a x (length b) sized) ∙ ap (take (length b)) same ∙ take_at b y (length b) refl,
-  sym (drop_at a x (length b) sized) ∙ ap (drop (length b)) same ∙ drop_at b y (length b) refl,
-)
+frame_is : (request : Message) → IsRequest request → IsFrame Requests (frame_of request)
+frame_is request fits = record { message = request; is_message = fits; spelled = refl }
 
--- messages of one kind in front tell their bodies, and where they end
-bodies_apart : (kind : ℕ) (a b x y : List ℕ) → length a ≤ body_limit → length b ≤ body_limit
-    → (message_head kind (length a) ++ a) ++ x ≡ (message_head kind (length b) ++ b) ++ y → (a ≡ b) × (x ≡ y)
-bodies_apart kind a b x y a_within b_within same =
-    let heads : message_head kind (length a) ≡ message_head kind (length b) = ap (take 7) same in
-    let sized : length a ≡ length b = be32_injective (length a) (length b) (omega arith) (omega arith) (ap (drop 3) heads) in
-    parts_same a b x y sized (ap (drop 7) same)
+-- a frame that goes on from a frame is that frame
+same_frames : FrameLaws → (a b : Message) (more : List ℕ) → IsRequest a → IsRequest b
+    → frame_of b ≡ frame_of a ++ more → frame_of a ≡ frame_of b
+same_frames laws a b more a_fits b_fits longer =
+    let none : more ≡ [] = laws.apart Requests (frame_of a) more (frame_is a a_fits)
+    (subst (IsFrame Requests) longer (frame_is b b_fits)) in
+    sym (append-nil (frame_of a)) ∙ ap (λ m. frame_of a ++ m) (sym none) ∙ sym longer
 
--- a request in front tells its kind and its body, and where it ends
-pub requests_apart : (a b : Request) (x y : List ℕ) → IsRequest a → IsRequest b → message a ++ x ≡ message b ++ y → (a ≡ b) × (x ≡ y)
-requests_apart (Encode a) (Encode b) x y a_fits b_fits same =
-    let parts = bodies_apart 1 a b x y a_fits.1 b_fits.1 same in (ap Encode parts.0, parts.1)
-requests_apart (Encode a) (Decode b) x y a_fits b_fits same =
-    let kinds : 1 ≡ 3 = ap (λ bytes. get_or bytes 2 0) same in absurd (omega (arith, kinds))
-requests_apart (Decode a) (Encode b) x y a_fits b_fits same =
-    let kinds : 3 ≡ 1 = ap (λ bytes. get_or bytes 2 0) same in absurd (omega (arith, kinds))
-requests_apart (Decode a) (Decode b) x y a_fits b_fits same =
-    let parts = bodies_apart 3 a b x y a_fits b_fits same in (ap Decode parts.0, parts.1)
+behind : (a b x y : List ℕ) → a ≡ b → a ++ x ≡ b ++ y → x ≡ y
+behind a b x y parts same =
+    sym (drop_at a x (length b) (ap length parts)) ∙ ap (drop (length b)) same
+    ∙ drop_at b y (length b) refl
+
+-- a request in front tells what it is, and where it ends
+pub requests_apart : FrameLaws → (a b : Message) (x y : List ℕ) → IsRequest a → IsRequest b
+    → frame_of a ++ x ≡ frame_of b ++ y → (a ≡ b) × (x ≡ y)
+requests_apart laws a b x y a_fits b_fits same =
+    let frames_same : frame_of a ≡ frame_of b =
+    elim (leb_tells (length (frame_of a)) (length (frame_of b)))
+    as (λ _. frame_of a ≡ frame_of b) [
+      | inl short ↦ same_frames laws a b _ a_fits b_fits
+          (goes_on (frame_of a) (frame_of b) x y short.1 same)
+      | inr long ↦ sym (same_frames laws b a _ b_fits a_fits
+          (goes_on (frame_of b) (frame_of a) y x (omega (arith, long.1)) (sym same)))
+    ] in (
+      laws.one Requests Requests a b a_fits b_fits frames_same,
+      behind (frame_of a) (frame_of b) x y frames_same same,
+    )
 
 -- the requests go on behind these, with what is left
-pub record Continues (requests read : List Request) (rest : List ℕ) : Type 0 where
-  pub more : List Request
+pub record Continues (requests read : List Message) (rest : List ℕ) : Type 0 where
+  pub more : List Message
   pub requests_are : requests ≡ read ++ more
   pub fit : AllFit more
-  pub rest_is : messages more ≡ rest
+  pub rest_is : frames more ≡ rest
 
 -- requests that are a front of a stream of requests are its first ones
-pub continues : (requests read : List Request) (rest : List ℕ) → AllFit requests → AllFit read
-    → messages requests ≡ messages read ++ rest → Continues requests read rest
-continues requests [] rest fit read_fit same = record { more = requests; requests_are = refl; fit = fit; rest_is = same }
-continues [] (first ∷ read) rest fit read_fit same = absurd (cc)
-continues (request ∷ requests) (first ∷ read) rest fit read_fit same =
-    let parts = requests_apart request first (messages requests) (messages read ++ rest) fit.0 read_fit.0
-    (same ∙ append_assoc (message first) (messages read) rest) in
-    let later = continues requests read rest fit.1 read_fit.1 parts.1 in
+pub continues : FrameLaws → (requests read : List Message) (rest : List ℕ) → AllFit requests
+    → AllFit read → frames requests ≡ frames read ++ rest → Continues requests read rest
+continues laws requests [] rest fit read_fit same =
+    record { more = requests; requests_are = refl; fit = fit; rest_is = same }
+continues laws [] (first ∷ read) rest fit read_fit same = absurd (cc)
+continues laws (request ∷ requests) (first ∷ read) rest fit read_fit same =
+    let parts = requests_apart laws request first (frames requests) (frames read ++ rest)
+    fit.0 read_fit.0 (same ∙ append_assoc (frame_of first) (frames read) rest) in
+    let later = continues laws requests read rest fit.1 read_fit.1 parts.1 in
     record {
       more = later.more;
       requests_are = ap (λ r. r ∷ requests) parts.0 ∙ ap (λ rs. first ∷ rs) later.requests_are;
@@ -66,38 +89,39 @@ continues (request ∷ requests) (first ∷ read) rest fit read_fit same =
       rest_is = later.rest_is;
     }
 
--- enough bytes of a stream that begins with a request begin with it
-begins_when_long : (request : Request) (later bytes rest : List ℕ) → IsRequest request → length (message request) ≤ length bytes
-    → message request ++ later ≡ bytes ++ rest → BeginsRequest bytes
-begins_when_long request later bytes rest fits long same =
-    let n = length (message request) in
-    let front : message request ≡ take n bytes = sym (take_at (message request) later n refl) ∙ ap (take n) same ∙ take-append-le n bytes rest long in
-    record { request = request; rest = drop n bytes; fits = fits; begins = sym (take-append-drop n bytes) ∙ ap (λ l. l ++ drop n bytes) (sym front) }
-
--- fewer of them are a prefix of it
-prefix_when_short : (request : Request) (later bytes rest : List ℕ) → IsRequest request → length bytes ≤ length (message request)
-    → message request ++ later ≡ bytes ++ rest → IsRequestPrefix bytes
-prefix_when_short request later bytes rest fits short same =
-    let n = length bytes in
-    let front : bytes ≡ take n (message request) = sym (take_at bytes rest n refl) ∙ ap (take n) (sym same) ∙ take-append-le n (message request) later short in
-    record { request = request; rest = drop n (message request); fits = fits; completed = ap (λ l. l ++ drop n (message request)) front ∙ take-append-drop n (message request) }
-
 front_of_nothing : (bytes rest : List ℕ) → [] ≡ bytes ++ rest → bytes ≡ []
 front_of_nothing [] rest same = refl
 front_of_nothing (byte ∷ bytes) rest same = absurd (cc)
 
+-- a frame has a head at least
+head_within : (request : Message) → head_size ≤ length (frame_of request)
+head_within request = omega arith
+
 -- a stream of whole requests is not malformed
-pub never_malformed : (requests : List Request) (bytes rest : List ℕ) (ended : Type 0) → AllFit requests → messages requests ≡ bytes ++ rest
-    → (ended → rest ≡ []) → IsNoRequest ended bytes → ⊥
-never_malformed [] bytes rest ended fit same at_end none = none.some (front_of_nothing bytes rest same)
-never_malformed (request ∷ requests) bytes rest ended fit same at_end none =
-    elim (leb_tells (length (message request)) (length bytes)) as (λ _. ⊥) [
-      | inl long ↦ none.begins_none (begins_when_long request (messages requests) bytes rest fit.0 long.1 same)
-      | inr short ↦
-          elim none.goes_on_to_none as (λ _. ⊥) [
-            | inl no_prefix ↦ no_prefix (prefix_when_short request (messages requests) bytes rest fit.0 (omega arith) same)
-            | inr ended_here ↦
-                let all : bytes ≡ message request ++ messages requests = sym (append-nil bytes) ∙ ap (λ l. bytes ++ l) (sym (at_end ended_here)) ∙ sym same in
-                none.begins_none (record { request = request; rest = messages requests; fits = fit.0; begins = all })
-          ]
-    ]
+pub never_malformed : (requests : List Message) (bytes rest : List ℕ) (ended : Type 0)
+    → AllFit requests → frames requests ≡ bytes ++ rest → (ended → rest ≡ [])
+    → IsNoRequest ended bytes → ⊥
+never_malformed [] bytes rest ended fit same at_end (broken size no_prefix) =
+    let none : bytes ≡ [] = front_of_nothing bytes rest same in
+    omega (arith, size, ap length none)
+never_malformed [] bytes rest ended fit same at_end (cut has_ended some less) =
+    some (front_of_nothing bytes rest same)
+never_malformed (request ∷ requests) bytes rest ended fit same at_end (broken size no_prefix) =
+    let frame = frame_of request in
+    let on : frame ≡ bytes ++ drop (length bytes) frame =
+    goes_on bytes frame rest (frames requests) (omega (arith, size, head_within request))
+    (sym same) in
+    no_prefix (record {
+      rest = drop (length bytes) frame;
+      completed = subst (IsFrame Requests) on (frame_is request fit.0);
+    })
+never_malformed (request ∷ requests) bytes rest ended fit same at_end (cut has_ended some less) =
+    let none : rest ≡ [] = at_end has_ended in
+    let whole : bytes ≡ frame_of request ++ frames requests =
+    sym (append-nil bytes) ∙ ap (λ l. bytes ++ l) (sym none) ∙ sym same in
+    less.begins_none (record {
+      frame = frame_of request;
+      rest = frames requests;
+      is_frame = frame_is request fit.0;
+      begins = whole;
+    })

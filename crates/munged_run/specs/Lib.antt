@@ -1,7 +1,11 @@
 pub mod CommandLine
-pub mod Exit
+pub mod Ending
+pub mod EndingTold
+pub mod Faults
 pub mod KeyFile
+pub mod Line
 pub mod Program
 pub mod SeedFile
 pub mod SessionCommand
+pub mod Status
 pub mod WholeRequests

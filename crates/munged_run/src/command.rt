@@ -3,8 +3,8 @@
 ghost use Rattle.std.specs.Prelude.{◌≡◌, map, option_map};
 ghost use Rattle.std.specs.List.{list_all};
 ghost use Rattle.std.specs.String.{string_bytes};
-ghost use Rattle.munged_run.specs.CommandLine.{command_of, id_of, is_digit, is_numeral, session_of};
-ghost use Rattle.munged_run.specs.SessionCommand.{command_told};
+ghost use Rattle.munged_run.specs.CommandLine.{caller_of, command_of, id_of, is_digit, is_numeral, session_of};
+ghost use Rattle.munged_run.specs.SessionCommand.{asked_told};
 
 use munge_types::Identity;
 
@@ -19,16 +19,30 @@ const LARGEST_ID: u32 = 4294967294;
 pub struct SessionCommand<'a> {
     /// The path of the key file.
     pub key_file: &'a str,
-    /// The caller, who has no control.
-    pub who: Identity,
+    /// The UID and the GID of the caller.
+    pub uid: u32,
+    pub gid: u32,
     /// The path of the seed file. Without one nothing is sealed.
     pub seed_file: Option<&'a str>,
+}
+
+impl SessionCommand<'_> {
+    /// The caller, who has no control.
+    pub fn caller(&self) -> Identity
+        ensures { result ≡ caller_of (asked_told self.now) }
+    {
+        Identity {
+            uid: self.uid,
+            gid: self.gid,
+            control: false,
+        }
+    }
 }
 
 /// What the words ask for, which do not hold the program's name: `session KEYFILE UID GID`, or
 /// `session KEYFILE UID GID SEEDFILE`.
 pub fn command_of_words(words: &[String]) -> Option<SessionCommand<'_>>
-    ensures { option_map command_told result ≡ command_of (map string_bytes words.now) }
+    ensures { option_map asked_told result ≡ command_of (map string_bytes words.now) }
 {
     match words {
         [name, key_file, uid, gid] => session_of_words(
@@ -57,20 +71,17 @@ fn session_of_words<'a>(
     gid: &str,
     seed_file: Option<&'a str>,
 ) -> Option<SessionCommand<'a>>
-    ensures { option_map command_told result
-        ≡ session_of name.now key_file.now uid.now gid.now (option_map (λ file. file.now) seed_file.entry) }
+    ensures { option_map asked_told result
+        ≡ session_of name.now key_file.now uid.now gid.now
+        (option_map (λ file. file.now) seed_file.entry) }
 {
     if name != "session" {
         return None;
     }
-    let who = Identity {
-        uid: id_of_word(uid)?,
-        gid: id_of_word(gid)?,
-        control: false,
-    };
     Some(SessionCommand {
         key_file,
-        who,
+        uid: id_of_word(uid)?,
+        gid: id_of_word(gid)?,
         seed_file,
     })
 }

@@ -1,8 +1,11 @@
 //! The key file.
 
-ghost use Rattle.std.specs.Prelude.{◌≡◌};
-ghost use Rattle.munged_run.specs.KeyFile.{ReadsKey, CountsKeyFault};
+ghost use Rattle.std.specs.Prelude.{◌≡◌, IfErr, IfOk};
+ghost use Rattle.munged_run.specs.EndingTold.{ending_told};
+ghost use Rattle.munged_run.specs.Faults.{CountsFault};
+ghost use Rattle.munged_run.specs.KeyFile.{GivesNoKey, IsKeyOf};
 
+use crate::ending::Ending;
 use byte_io::{FileFail, Files};
 use std::alloc::Global;
 use subkeys::Subkeys;
@@ -10,26 +13,24 @@ use subkeys::Subkeys;
 /// The most bytes that are read of a key file, one more than it may have.
 const KEY_ROOM: u32 = 1025;
 
-/// Why there is no key.
-#[derive(Clone, Copy, Debug, PartialEq, Eq)]
-pub enum NoKey {
-    /// The file could not be read.
-    Unread,
-    /// It has fewer than 32 bytes, or more than 1024.
-    Refused,
-    /// There was no memory for its bytes.
-    NoMemory,
-}
-
-/// The subkeys of the key in the file of that name.
-pub fn read_key<F: Files>(alloc: Global, files: &mut F, name: &str) -> Result<Subkeys, NoKey>
-    ensures key { ReadsKey (F.files files.old) name.now result }
-    ensures counted { CountsKeyFault result (F.file_faults files.old) (F.file_faults files.new) }
+/// The subkeys of the key in the file of that name, or how the program ends without them.
+pub fn read_key<'a, F: Files>(
+    alloc: Global,
+    files: &mut F,
+    name: &'a str,
+) -> Result<Subkeys, Ending<'a>>
+    ensures key { IfOk result (IsKeyOf (F.files files.old) name.now) }
+    ensures no_key { IfErr result (λ why.
+        GivesNoKey (F.files files.old) name.now (ending_told why)) }
+    ensures counted { CountsFault result (F.file_faults files.old) (F.file_faults files.new) }
     ensures kept { F.files files.new ≡ F.files files.old }
 {
     match files.read(alloc, name, KEY_ROOM) {
-        Ok(key) => Subkeys::of(key.as_slice()).map_err(|_| NoKey::Refused),
-        Err(FileFail::Failed) => Err(NoKey::Unread),
-        Err(FileFail::NoMemory) => Err(NoKey::NoMemory),
+        Ok(key) => match Subkeys::of(key.as_slice()) {
+            Ok(subkeys) => Ok(subkeys),
+            Err(_) => Err(Ending::WrongSize(name, key.len() as u64)),
+        },
+        Err(FileFail::Failed) => Err(Ending::Unread(name)),
+        Err(FileFail::NoMemory) => Err(Ending::NoMemory),
     }
 }

@@ -4,15 +4,17 @@
 #![tactic(auto)]
 
 mod command;
-mod exit;
+mod ending;
 mod key_file;
+mod line;
 mod run;
 mod seed_file;
+mod session;
 #[cfg(test)]
 mod tests;
 
 use byte_io::{DiskFiles, StdSink, StdSource, SystemClock};
-use exit::Exit;
+use ending::Ending;
 use run::munged_run;
 use std::io::{BufReader, ErrorKind, Write};
 use std::process::ExitCode;
@@ -40,19 +42,19 @@ Exit statuses: 0 the input was read to its end; 1 the words are no command;
 const VERSION: &str = "munged 0.1\n";
 
 /// The words of the command line without the program's name, or how the program ends without them.
-fn words_of(rt: &HostRuntime) -> Result<Vec<String>, Exit> {
-    let words = env::args(rt).map_err(|e| exit_without_words(&e))?;
+fn words_of(rt: &HostRuntime) -> Result<Vec<String>, Ending<'static>> {
+    let words = env::args(rt).map_err(|e| ending_without_words(&e))?;
     words
         .skip(1)
         .collect(rt.alloc())
-        .map_err(|_| Exit::NoMemory)
+        .map_err(|_| Ending::NoMemory)
 }
 
 /// Words that are no text ask for nothing.
-fn exit_without_words(e: &io::Error) -> Exit {
+fn ending_without_words(e: &io::Error) -> Ending<'static> {
     match e.kind() {
-        ErrorKind::OutOfMemory => Exit::NoMemory,
-        _ => Exit::NoCommand,
+        ErrorKind::OutOfMemory => Ending::NoMemory,
+        _ => Ending::NoCommand,
     }
 }
 
@@ -66,23 +68,29 @@ fn told_by(words: &[String]) -> Option<&'static str> {
 }
 
 /// Prints a text on standard output.
-fn tell(rt: &HostRuntime, text: &str) -> Exit {
+fn tell(rt: &HostRuntime, text: &str) -> Ending<'static> {
     match rt.stdout().write_all(text.as_bytes()) {
-        Ok(()) => Exit::Done,
-        Err(_) => Exit::WriteFault,
+        Ok(()) => Ending::Done,
+        Err(_) => Ending::OutputFailed,
     }
+}
+
+/// Ends where `munged_run` is not called.
+fn end(rt: &HostRuntime, ending: Ending<'static>) -> ExitCode {
+    ending.say_on(&mut StdSink::new(rt.stderr()));
+    ExitCode::from(ending.status())
 }
 
 fn main(rt: HostRuntime) -> ExitCode {
     let words = match words_of(&rt) {
         Ok(words) => words,
-        Err(exit) => return ExitCode::from(exit.status()),
+        Err(ending) => return end(&rt, ending),
     };
     if let Some(text) = told_by(&words) {
-        return ExitCode::from(tell(&rt, text).status());
+        return end(&rt, tell(&rt, text));
     }
     let Ok(stdin) = BufReader::new(rt.alloc(), rt.stdin()) else {
-        return ExitCode::from(Exit::NoMemory.status());
+        return end(&rt, Ending::NoMemory);
     };
     let mut files = DiskFiles::new(rt);
     let mut input = StdSource::new(stdin);

@@ -3,25 +3,31 @@
 ghost use Rattle.std.specs.Prelude.{◌≡◌, ◌≢◌, ◌↔◌, ◌⊎◌, None, map};
 ghost use Rattle.std.specs.String.{string_bytes};
 ghost use Rattle.byte_io.specs.Counts.{Rose};
-ghost use Rattle.session_core.specs.Reading.{CameToEnd};
+ghost use Rattle.session_core.specs.Things.{input_of, outside_of};
 ghost use Rattle.munged_run.specs.CommandLine.{command_of};
-ghost use Rattle.munged_run.specs.Exit.{exit_number};
-ghost use Rattle.munged_run.specs.Program.{Ran};
-ghost use Rattle.munged_run.specs.WholeRequests.{WholeRequests, AnswersAll};
+ghost use Rattle.munged_run.specs.Ending.{Says, errors_of, line_of, status_of};
+ghost use Rattle.munged_run.specs.EndingTold.{ending_told};
+ghost use Rattle.munged_run.specs.Program.{Ran, given_of};
+ghost use Rattle.munged_run.specs.Status.{
+  bad_words,
+  failed_clock,
+  failed_input,
+  failed_output,
+  success,
+  unread_file,
+  want_of_memory,
+};
+ghost use Rattle.munged_run.specs.WholeRequests.{AnswersWhole, WholeRequests};
 
 use crate::command::command_of_words;
-use crate::exit::Exit;
-use crate::key_file::read_key;
-use crate::seed_file::read_seed;
+use crate::ending::Ending;
+use crate::session::run_session;
 use byte_io::{Clock, Files, Sink, Source};
-use munge_types::Settings;
-use replay_table::ReplayTable;
-use session_core::{World, session};
 use std::alloc::Global;
-use std::hash::{BuildHasherDefault, FoldHasher};
+use wire_msg::laws::{frame_has_one_message, no_frame_goes_on_to_another};
 
 /// Does what the words ask for, which do not hold the program's name, and returns the status of the
-/// process.
+/// process. Where that is not 0, one line on `err` says why.
 pub fn munged_run<F: Files, I: Source, O: Sink, E: Sink, C: Clock>(
     alloc: Global,
     words: &[String],
@@ -31,60 +37,65 @@ pub fn munged_run<F: Files, I: Source, O: Sink, E: Sink, C: Clock>(
     err: &mut E,
     clock: &mut C,
 ) -> u8
-    ensures ran { Ran (map string_bytes words.now) (F.files files.old)
-        ((input.new ≡ input.old) × (out.new ≡ out.old) × (clock.new ≡ clock.old))
-        (CameToEnd (I.ends input.old) (I.ends input.new) (I.left input.new))
-        (record { left = I.left input.old; taken = O.taken out.old; readings = C.readings clock.old })
-        (record { left = I.left input.new; taken = O.taken out.new; readings = C.readings clock.new })
-        result }
-    ensures no_command { (result ≡ exit_number Exit.NoCommand) ↔ (command_of (map string_bytes words.now) ≡ None) }
+    ensures ran { let before = outside_of (input_of (I.left input.old) (I.ends input.old))
+        (O.taken out.old) (C.readings clock.old) in
+        let after = outside_of (input_of (I.left input.new) (I.ends input.new))
+        (O.taken out.new) (C.readings clock.new) in
+        Ran (given_of (map string_bytes words.now) (F.files files.old))
+        ((input.new ≡ input.old) × (out.new ≡ out.old) × (clock.new ≡ clock.old)) before after
+        (Says (errors_of (E.taken err.old) (E.write_faults err.old))
+        (errors_of (E.taken err.new) (E.write_faults err.new))) result }
+    ensures no_command { (result ≡ bad_words)
+        ↔ (command_of (map string_bytes words.now) ≡ None) }
 
-    ensures file_fault { result ≡ exit_number Exit.FileFault → Rose (F.file_faults files.old) (F.file_faults files.new) }
-    ensures read_fault { result ≡ exit_number Exit.ReadFault → Rose (I.read_faults input.old) (I.read_faults input.new) }
-    ensures write_fault { result ≡ exit_number Exit.WriteFault → Rose (O.write_faults out.old) (O.write_faults out.new) }
-    ensures clock_fault { result ≡ exit_number Exit.ClockFault → Rose (C.clock_faults clock.old) (C.clock_faults clock.new) }
-    ensures files_sound { result ≢ exit_number Exit.FileFault → F.file_faults files.new ≡ F.file_faults files.old }
-    ensures reads_sound { result ≢ exit_number Exit.ReadFault → I.read_faults input.new ≡ I.read_faults input.old }
-    ensures writes_sound { result ≢ exit_number Exit.WriteFault → O.write_faults out.new ≡ O.write_faults out.old }
-    ensures clock_sound { result ≢ exit_number Exit.ClockFault → C.clock_faults clock.new ≡ C.clock_faults clock.old }
+    ensures file_fault { result ≡ unread_file
+        → Rose (F.file_faults files.old) (F.file_faults files.new) }
+    ensures read_fault { result ≡ failed_input
+        → Rose (I.read_faults input.old) (I.read_faults input.new) }
+    ensures write_fault { result ≡ failed_output
+        → Rose (O.write_faults out.old) (O.write_faults out.new) }
+    ensures clock_fault { result ≡ failed_clock
+        → Rose (C.clock_faults clock.old) (C.clock_faults clock.new) }
+    ensures files_sound { result ≢ unread_file
+        → F.file_faults files.new ≡ F.file_faults files.old }
+    ensures reads_sound { result ≢ failed_input
+        → I.read_faults input.new ≡ I.read_faults input.old }
+    ensures writes_sound { result ≢ failed_output
+        → O.write_faults out.new ≡ O.write_faults out.old }
+    ensures clock_sound { result ≢ failed_clock
+        → C.clock_faults clock.new ≡ C.clock_faults clock.old }
 
     // Nothing else than want of memory keeps it from answering all.
-    ensures complete { (whole : WholeRequests (map string_bytes words.now) (F.files files.old) (I.left input.old))
-        → ¬ (Rose (F.file_faults files.old) (F.file_faults files.new)) → ¬ (Rose (I.read_faults input.old) (I.read_faults input.new))
-        → ¬ (Rose (O.write_faults out.old) (O.write_faults out.new)) → ¬ (Rose (C.clock_faults clock.old) (C.clock_faults clock.new))
-        → (result ≡ exit_number Exit.NoMemory) ⊎ ((result ≡ exit_number Exit.Done) × AnswersAll whole.key whole.command whole.seed whole.requests
-        (record { left = I.left input.old; taken = O.taken out.old; readings = C.readings clock.old })
-        (record { left = I.left input.new; taken = O.taken out.new; readings = C.readings clock.new })) }
+    ensures complete { let given = given_of (map string_bytes words.now) (F.files files.old) in
+        let before = outside_of (input_of (I.left input.old) (I.ends input.old))
+        (O.taken out.old) (C.readings clock.old) in
+        let after = outside_of (input_of (I.left input.new) (I.ends input.new))
+        (O.taken out.new) (C.readings clock.new) in
+        (whole : WholeRequests given (I.left input.old))
+        → ¬ Rose (F.file_faults files.old) (F.file_faults files.new)
+        → ¬ Rose (I.read_faults input.old) (I.read_faults input.new)
+        → ¬ Rose (O.write_faults out.old) (O.write_faults out.new)
+        → ¬ Rose (C.clock_faults clock.old) (C.clock_faults clock.new)
+        → (result ≡ want_of_memory)
+        ⊎ ((result ≡ success) × AnswersWhole given before after whole) }
 
     ensures files_stay { F.files files.new ≡ F.files files.old }
-    ensures errors_unwritten { err.new ≡ err.old }
 {
+    frame_has_one_message();
+    no_frame_goes_on_to_another();
     let Some(command) = command_of_words(words) else {
-        return Exit::NoCommand.status();
+        return end(err, Ending::NoCommand);
     };
-    let subkeys = match read_key(alloc, files, command.key_file) {
-        Ok(subkeys) => subkeys,
-        Err(no_key) => return Exit::without(no_key).status(),
-    };
-    let seed = match read_seed(alloc, files, command.seed_file) {
-        Ok(seed) => seed,
-        Err(no_seed) => return Exit::unseeded(no_seed).status(),
-    };
-    let world = World {
-        subkeys,
-        settings: Settings::usual(),
-    };
-    let hash_state: BuildHasherDefault<FoldHasher> = BuildHasherDefault::new();
-    let mut replay = ReplayTable::new(alloc, hash_state);
-    let end = session(
-        alloc,
-        input,
-        out,
-        clock,
-        &mut replay,
-        command.who,
-        &world,
-        seed,
-    );
-    Exit::after(end.how).status()
+    let ending = run_session(alloc, &command, files, input, out, clock);
+    end(err, ending)
+}
+
+/// Says how the program ends, and returns the status of the process.
+fn end<E: Sink>(err: &mut E, ending: Ending<'_>) -> u8
+    ensures status { result ≡ status_of (ending_told ending.entry) }
+    ensures says { Says (errors_of (E.taken err.old) (E.write_faults err.old))
+        (errors_of (E.taken err.new) (E.write_faults err.new)) (line_of (ending_told ending.entry)) }
+{
+    ending.say_on(err);
+    ending.status()
 }

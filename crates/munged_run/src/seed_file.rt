@@ -1,34 +1,29 @@
 //! The seed file.
 
-ghost use Rattle.std.specs.Prelude.{◌≡◌, ◌<◌, ◌≤◌, IfNone, IfSome, OnSome, length, option_map};
-ghost use Rattle.munged_run.specs.SeedFile.{ReadsSeed, CountsSeedFault};
+ghost use Rattle.std.specs.Prelude.{◌≡◌, ◌<◌, ◌≤◌, IfErr, IfNone, IfOk, IfSome, OnSome, length, option_map};
+ghost use Rattle.munged_run.specs.EndingTold.{ending_told};
+ghost use Rattle.munged_run.specs.Faults.{CountsFault};
+ghost use Rattle.munged_run.specs.SeedFile.{GivesNoSeed, IsSeedOf};
 
+use crate::ending::Ending;
 use byte_io::{FileFail, Files};
 use std::alloc::Global;
 
 /// The bytes of a seed.
 const SEED_SIZE: usize = 32;
 
-/// Why a seed file gave no seed.
-#[derive(Clone, Copy, Debug, PartialEq, Eq)]
-pub enum NoSeed {
-    /// The file could not be read.
-    Unread,
-    /// It has fewer than 32 bytes.
-    Short,
-    /// There was no memory for its bytes.
-    NoMemory,
-}
-
 /// The seed of a session: the first 32 bytes of the file of that name, and none where no file is
-/// named. At most 32 bytes are read.
-pub fn read_seed<F: Files>(
+/// named; or how the program ends without it. At most 32 bytes are read.
+pub fn read_seed<'a, F: Files>(
     alloc: Global,
     files: &mut F,
-    seed_file: Option<&str>,
-) -> Result<Option<[u8; SEED_SIZE]>, NoSeed>
-    ensures seed { ReadsSeed (F.files files.old) (option_map (λ name. name.now) seed_file.entry) result }
-    ensures counted { CountsSeedFault result (F.file_faults files.old) (F.file_faults files.new) }
+    seed_file: Option<&'a str>,
+) -> Result<Option<[u8; SEED_SIZE]>, Ending<'a>>
+    ensures seed { let name = option_map (λ name. name.now) seed_file.entry in
+        IfOk result (IsSeedOf (F.files files.old) name) }
+    ensures no_seed { let name = option_map (λ name. name.now) seed_file.entry in
+        IfErr result (λ why. GivesNoSeed (F.files files.old) name (ending_told why)) }
+    ensures counted { CountsFault result (F.file_faults files.old) (F.file_faults files.new) }
     ensures kept { F.files files.new ≡ F.files files.old }
 {
     let Some(name) = seed_file else {
@@ -37,10 +32,10 @@ pub fn read_seed<F: Files>(
     match files.read(alloc, name, SEED_SIZE as u32) {
         Ok(bytes) => match seed_of(&bytes) {
             Some(seed) => Ok(Some(seed)),
-            None => Err(NoSeed::Short),
+            None => Err(Ending::WrongSize(name, bytes.len() as u64)),
         },
-        Err(FileFail::Failed) => Err(NoSeed::Unread),
-        Err(FileFail::NoMemory) => Err(NoSeed::NoMemory),
+        Err(FileFail::Failed) => Err(Ending::Unread(name)),
+        Err(FileFail::NoMemory) => Err(Ending::NoMemory),
     }
 }
 

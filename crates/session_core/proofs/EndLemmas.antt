@@ -1,35 +1,27 @@
 -- What a turn leaves behind, for each way that it can go.
-use Rattle.std.proofs.Common.{◌≡◌, ℕ, ◌+◌, ◌<◌, List, [], ◌∷◌, ◌++◌, length, take, drop, Option, None, Some, refl, sym, ap, ◌∙◌, arith, inl, inr}
-use Rattle.std.proofs.lemmas.List.{append-nil, length-drop, take-append-drop}
-use Rattle.std.specs.Io.KnownBytes.{Consumes, Appends, Keeps}
-use Rattle.munge_types.specs.StandsFor.{StandsFor}
+use Rattle.std.proofs.Common.{◌≡◌, ℕ, ◌+◌, ◌<◌, ◌≤◌, ◌^◌, Bool, List, [], ◌∷◌, ◌++◌, length, take, drop, Option, refl, sym, ap, ◌∙◌, subst, arith, inl, inr}
+use Rattle.std.proofs.lemmas.List.{append-nil, length-append, length-drop, take-append-drop}
+use Rattle.std.specs.Io.KnownBytes.{Consumes, Appends}
+use Rattle.munge_types.specs.StandsFor.{Remembered, Stands}
 use Rattle.munge_types.specs.declared.history.Event.{Event}
-use Rattle.munge_types.specs.declared.identity.Identity.{Identity}
-use Rattle.munge_types.specs.declared.pair.Pair.{Pair}
-use Rattle.munge_types.specs.declared.settings.Settings.{Settings}
-use Rattle.session_core.specs.ClientMessage.{Request, IsRequest, body_of, message}
-use Rattle.session_core.specs.Reading.{CameToEnd, ReadsNone, how_of}
+use Rattle.wire_msg.specs.Frame.{IsFramePrefix}
+use Rattle.wire_msg.specs.Feeding.{place_after}
+use Rattle.wire_msg.specs.FrameHead.{message_head}
+use Rattle.wire_msg.specs.Spelling.{body_of, frame_of, kind_of}
+use Rattle.wire_msg.specs.declared.kind.Side.TheVariants.{Requests}
+use Rattle.wire_msg.specs.declared.message.Message.{Message}
+use Rattle.session_core.specs.Answering.{Own, is_last}
+use Rattle.session_core.specs.Reading.{ReadsNone, how_of}
+use Rattle.session_core.specs.Requests.{IsRequest}
+use Rattle.session_core.specs.Session.{Session}
 use Rattle.session_core.specs.SessionRan.{Beyond, IsProperPrefix, IsUntouched}
-use Rattle.session_core.specs.SessionRun.{Own, before_answer}
-use Rattle.session_core.specs.Turn.{Answered, Ended, IsAnswered}
+use Rattle.session_core.specs.Things.{CameToEnd, Input, Moves, Outside, Things, outside_of, things_of}
+use Rattle.session_core.specs.Turn.{HasEnded, IsAnswered, IsBegun, IsLeft, IsTurned, LeavesUnanswered, Stage}
+use Rattle.session_core.specs.declared.answer.Unanswered.TheVariants.{ClockFault as Unclocked, NoMemory as NoRoomToAnswer}
 use Rattle.session_core.specs.declared.end.HowEnded.TheVariants.{ClockFault, WriteFault, NoMemory}
 use Rattle.session_core.specs.declared.request.Unread.{Unread}
 use Rattle.session_core.specs.declared.request.Unread.TheVariants.{Ended as EndedInput, Malformed, ReadFault, NoMemory as NoRoom}
-use Rattle.session_core.specs.declared.turn.Position.{Position}
-
-pub consumes_nothing : (told : Option (List ℕ)) → Consumes told told []
-consumes_nothing None = tt
-consumes_nothing (Some bytes) = refl
-
-pub appends_nothing : (told : Option (List ℕ)) → Appends told told []
-appends_nothing None = tt
-appends_nothing (Some bytes) = sym (append-nil bytes)
-
--- what stays has lost nothing
-pub kept_consumes : (old new : Option (List ℕ)) → Keeps old new → Consumes old new []
-kept_consumes None new kept = tt
-kept_consumes (Some xs) None kept = absurd kept
-kept_consumes (Some xs) (Some ys) kept = sym kept
+use Rattle.session_core.proofs.StreamLemmas.{consumes_nothing, appends_nothing, kept_consumes}
 
 -- the front of a whole that is longer leaves some rest
 pub proper_prefix : (n : ℕ) (whole : List ℕ) → n < length whole → IsProperPrefix (take n whole) whole
@@ -48,115 +40,117 @@ pub read_alone_untouched : (bytes : List ℕ) (own : List Event) → IsUntouched
 read_alone_untouched bytes own = record { written_none = refl; readings_none = refl; events_same = refl }
 
 -- no request came
-pub ended_unread : (key : List ℕ) (settings : Settings) (who : Identity) (seed : Option (List ℕ)) (base : List Event) (own : Own) (left left' taken readings : Option (List ℕ)) (floor : ℕ) (kept : List Pair) (begins faults faults' ends ends' : ℕ) (cause : Unread)
-    → StandsFor floor kept (base ++ own.events) → ReadsNone cause left left' faults faults' ends ends'
-    → Ended key settings who seed base own
-    (record { left = left; taken = taken; readings = readings; floor = floor; kept = kept })
-    (record { left = left'; taken = taken; readings = readings; floor = floor; kept = kept })
-    begins (CameToEnd ends ends' left') (how_of cause begins)
-ended_unread key settings who seed base own left left' taken readings floor kept begins faults faults' ends ends' EndedInput stands none =
+pub ended_unread : (session : Session) (own : Own) (before after : Input) (taken readings : Option (List ℕ)) (state : Remembered) (begins : ℕ) (cause : Unread)
+    → Stands state (session.base ++ own.events) → before.ends ≤ after.ends → ReadsNone cause before after
+    → HasEnded session own (things_of (outside_of before taken readings) state) (things_of (outside_of after taken readings) state) begins (how_of cause begins)
+ended_unread session own before after taken readings state begins EndedInput stands ends none =
     record {
       beyond = read_alone [] own.events;
-      leaves = λ _. (refl, none.2, read_alone_untouched [] own.events);
-      moves = record { reads = kept_consumes left left' none.0; writes = appends_nothing taken; takes = consumes_nothing readings; stands = stands };
+      leaves = λ _. (refl, none.1, read_alone_untouched [] own.events);
+      moves = record { reads = kept_consumes before.left after.left none.0; ends_stay = ends; writes = appends_nothing taken; takes = consumes_nothing readings; stands = stands };
     }
-ended_unread key settings who seed base own left left' taken readings floor kept begins faults faults' ends ends' Malformed stands none =
+ended_unread session own before after taken readings state begins Malformed stands ends none =
     record {
-      beyond = read_alone none.0.bytes own.events;
-      leaves = λ _. (refl, none.0.holds, read_alone_untouched none.0.bytes own.events);
-      moves = record { reads = none.0.consumed; writes = appends_nothing taken; takes = consumes_nothing readings; stands = stands };
+      beyond = read_alone none.bytes own.events;
+      leaves = λ _. (refl, none.holds, read_alone_untouched none.bytes own.events);
+      moves = record { reads = none.consumed; ends_stay = ends; writes = appends_nothing taken; takes = consumes_nothing readings; stands = stands };
     }
-ended_unread key settings who seed base own left left' taken readings floor kept begins faults faults' ends ends' ReadFault stands none =
+ended_unread session own before after taken readings state begins ReadFault stands ends none =
     record {
-      beyond = read_alone none.0.bytes own.events;
-      leaves = λ _. (none.0.holds, read_alone_untouched none.0.bytes own.events);
-      moves = record { reads = none.0.consumed; writes = appends_nothing taken; takes = consumes_nothing readings; stands = stands };
+      beyond = read_alone none.bytes own.events;
+      leaves = λ _. (none.holds, read_alone_untouched none.bytes own.events);
+      moves = record { reads = none.consumed; ends_stay = ends; writes = appends_nothing taken; takes = consumes_nothing readings; stands = stands };
     }
-ended_unread key settings who seed base own left left' taken readings floor kept begins faults faults' ends ends' NoRoom stands none =
+ended_unread session own before after taken readings state begins NoRoom stands ends none =
     record {
-      beyond = read_alone none.0.bytes own.events;
-      leaves = λ _. (none.0.holds, record { written_none = refl; events_are = inl (refl, refl) });
-      moves = record { reads = none.0.consumed; writes = appends_nothing taken; takes = consumes_nothing readings; stands = stands };
+      beyond = read_alone none.bytes own.events;
+      leaves = λ _. (none.holds, inl (read_alone_untouched none.bytes own.events));
+      moves = record { reads = none.consumed; ends_stay = ends; writes = appends_nothing taken; takes = consumes_nothing readings; stands = stands };
     }
 
 -- a request came, and the clock gave no reading
-pub ended_unclocked : (key : List ℕ) (settings : Settings) (who : Identity) (seed : Option (List ℕ)) (base : List Event) (own : Own) (left left' taken readings readings' : Option (List ℕ)) (floor : ℕ) (kept : List Pair) (begins : ℕ) (ended : Type 0) (request : Request)
-    → StandsFor floor kept (base ++ own.events) → IsRequest request → Consumes left left' (message request) → Keeps readings readings'
-    → Ended key settings who seed base own
-    (record { left = left; taken = taken; readings = readings; floor = floor; kept = kept })
-    (record { left = left'; taken = taken; readings = readings'; floor = floor; kept = kept })
-    begins ended ClockFault
-ended_unclocked key settings who seed base own left left' taken readings readings' floor kept begins ended request stands fits read clocked =
+pub ended_unclocked : (session : Session) (own : Own) (before after : Input) (taken readings readings' : Option (List ℕ)) (state state' : Remembered) (begins : ℕ) (request : Message)
+    → IsRequest request → before.ends ≤ after.ends → Consumes before.left after.left (frame_of request)
+    → LeavesUnanswered session own.events request readings readings' state' Unclocked
+    → HasEnded session own (things_of (outside_of before taken readings) state) (things_of (outside_of after taken readings') state') begins ClockFault
+ended_unclocked session own before after taken readings readings' state state' begins request fits ends read left =
     record {
-      beyond = read_alone (message request) own.events;
-      leaves = λ _. (record { request = request; fits = fits; read_is = refl }, read_alone_untouched (message request) own.events);
-      moves = record { reads = read; writes = appends_nothing taken; takes = kept_consumes readings readings' clocked; stands = stands };
+      beyond = read_alone (frame_of request) own.events;
+      leaves = λ _. record { request = request; whole = record { fits = fits; read_is = refl; timed = left.0 }; untouched = read_alone_untouched (frame_of request) own.events };
+      moves = record { reads = read; ends_stay = ends; writes = appends_nothing taken; takes = kept_consumes readings readings' left.1.kept; stands = left.1.stands };
     }
 
+-- a request came whole, and is a prefix of itself
+whole_prefix : (request : Message) → IsRequest request → IsFramePrefix Requests (frame_of request)
+whole_prefix request fits =
+    record { rest = []; completed = record { message = request; is_message = fits; spelled = append-nil (frame_of request) } }
+
 -- a request came, and there was no memory to answer it
-pub ended_unanswered : (key : List ℕ) (settings : Settings) (who : Identity) (seed : Option (List ℕ)) (base : List Event) (own : Own) (left left' taken readings readings' : Option (List ℕ)) (floor floor' : ℕ) (kept kept' : List Pair) (begins : ℕ) (ended : Type 0) (request : Request) (moment : ℕ)
-    → IsRequest request → Consumes left left' (message request) → Consumes readings readings' (moment ∷ [])
-    → StandsFor floor' kept' (base ++ before_answer base own.events moment request)
-    → Ended key settings who seed base own
-    (record { left = left; taken = taken; readings = readings; floor = floor; kept = kept })
-    (record { left = left'; taken = taken; readings = readings'; floor = floor'; kept = kept' })
-    begins ended NoMemory
-ended_unanswered key settings who seed base own left left' taken readings readings' floor floor' kept kept' begins ended request moment fits read clocked stands =
+pub ended_unanswered : (session : Session) (own : Own) (before after : Input) (taken readings readings' : Option (List ℕ)) (state state' : Remembered) (begins : ℕ) (request : Message)
+    → IsRequest request → before.ends ≤ after.ends → Consumes before.left after.left (frame_of request)
+    → LeavesUnanswered session own.events request readings readings' state' NoRoomToAnswer
+    → HasEnded session own (things_of (outside_of before taken readings) state) (things_of (outside_of after taken readings') state') begins NoMemory
+ended_unanswered session own before after taken readings readings' state state' begins request fits ends read (inl left) =
     record {
-      beyond = record { read = message request; written = []; readings = moment ∷ []; events = before_answer base own.events moment request };
+      beyond = read_alone (frame_of request) own.events;
+      leaves = λ _. (whole_prefix request fits, inl (read_alone_untouched (frame_of request) own.events));
+      moves = record { reads = read; ends_stay = ends; writes = appends_nothing taken; takes = kept_consumes readings readings' left.kept; stands = left.stands };
+    }
+ended_unanswered session own before after taken readings readings' state state' begins request fits ends read (inr begun) =
+    record {
+      beyond = record { read = frame_of request; written = []; readings = begun.moment ∷ []; events = _ };
       leaves = λ _. (
-        record { request = request; rest = []; fits = fits; completed = append-nil (message request) },
-        record { written_none = refl; events_are = inr (record { request = request; fits = fits; read_is = refl; moment = moment; readings_are = refl; events_are = refl }) },
+        whole_prefix request fits,
+        inr (record { request = request; whole = record { fits = fits; read_is = refl; timed = begun.timed }; moment = begun.moment; readings_are = refl; written_none = refl; events_are = refl }),
       );
-      moves = record { reads = read; writes = appends_nothing taken; takes = clocked; stands = stands };
+      moves = record { reads = read; ends_stay = ends; writes = appends_nothing taken; takes = begun.takes; stands = begun.stands };
     }
 
 -- a request was answered, and not all of the reply went out
-pub ended_cut : (key : List ℕ) (settings : Settings) (who : Identity) (seed : Option (List ℕ)) (base : List Event) (own : Own) (left left' taken taken' readings readings' : Option (List ℕ)) (floor floor' : ℕ) (kept kept' : List Pair) (begins entries place n : ℕ) (ended : Type 0) (request : Request) (reply : List ℕ) (moment : ℕ)
-    → IsRequest request → Consumes left left' (message request) → Consumes readings readings' (moment ∷ [])
-    → IsAnswered key settings who seed base own moment request reply entries place floor' kept'
+pub ended_cut : (session : Session) (own : Own) (before after : Input) (taken taken' readings readings' : Option (List ℕ)) (state state' : Remembered) (begins n : ℕ) (request : Message) (reply : List ℕ) (stage : Stage)
+    → IsRequest request → before.ends ≤ after.ends → Consumes before.left after.left (frame_of request)
+    → IsAnswered session own request reply readings readings' state' stage
     → Appends taken taken' (take n reply) → n < length reply
-    → Ended key settings who seed base own
-    (record { left = left; taken = taken; readings = readings; floor = floor; kept = kept })
-    (record { left = left'; taken = taken'; readings = readings'; floor = floor'; kept = kept' })
-    begins ended WriteFault
-ended_cut key settings who seed base own left left' taken taken' readings readings' floor floor' kept kept' begins entries place n ended request reply moment fits read clocked answered wrote short =
+    → HasEnded session own (things_of (outside_of before taken readings) state) (things_of (outside_of after taken' readings') state') begins WriteFault
+ended_cut session own before after taken taken' readings readings' state state' begins n request reply stage fits ends read answered wrote short =
     record {
-      beyond = record { read = message request; written = take n reply; readings = moment ∷ []; events = answered.next.events };
+      beyond = record { read = frame_of request; written = take n reply; readings = answered.outcome.readings; events = answered.outcome.own.events };
       leaves = λ _. record {
         request = request;
         fits = fits;
         read_is = refl;
-        moment = moment;
-        readings_are = refl;
-        reply = reply;
-        next = answered.next;
+        outcome = answered.outcome;
         answers = answered.answers;
+        readings_are = refl;
         events_are = refl;
-        written_is = proper_prefix n reply short;
+        written_is = subst (λ r. IsProperPrefix (take n reply) r) (sym answered.reply_is) (proper_prefix n reply short);
       };
-      moves = record { reads = read; writes = wrote; takes = clocked; stands = answered.stands };
+      moves = record { reads = read; ends_stay = ends; writes = wrote; takes = answered.takes; stands = answered.stands };
     }
 
 -- a request was answered, and the whole reply went out
-pub answered_whole : (key : List ℕ) (settings : Settings) (who : Identity) (seed : Option (List ℕ)) (base : List Event) (own : Own) (left left' taken taken' readings readings' : Option (List ℕ)) (floor floor' : ℕ) (kept kept' : List Pair) (at : Position) (begins entries place : ℕ) (request : Request) (reply : List ℕ) (moment : ℕ)
-    → IsRequest request → Consumes left left' (message request) → Consumes readings readings' (moment ∷ [])
-    → IsAnswered key settings who seed base own moment request reply entries place floor' kept'
-    → Appends taken taken' reply → begins ≡ at.begins + 7 + length (body_of request)
-    → Answered key settings who seed base own
-    (record { left = left; taken = taken; readings = readings; floor = floor; kept = kept })
-    (record { left = left'; taken = taken'; readings = readings'; floor = floor'; kept = kept' })
-    at place (record { begins = begins; entries = entries })
-answered_whole key settings who seed base own left left' taken taken' readings readings' floor floor' kept kept' at begins entries place request reply moment fits read clocked answered wrote begins_is =
+pub turned_whole : (session : Session) (own : Own) (before after : Input) (taken taken' readings readings' : Option (List ℕ)) (state state' : Remembered) (begins begins' : ℕ) (over : Bool) (request : Message) (reply : List ℕ) (stage : Stage)
+    → IsRequest request → before.ends ≤ after.ends → Consumes before.left after.left (frame_of request)
+    → IsAnswered session own request reply readings readings' state' stage
+    → Appends taken taken' reply → begins' ≡ begins + length (frame_of request) → over ≡ is_last session.terms.who request
+    → IsTurned session own (things_of (outside_of before taken readings) state) (things_of (outside_of after taken' readings') state') begins begins' over stage
+turned_whole session own before after taken taken' readings readings' state state' begins begins' over request reply stage fits ends read answered wrote begins_is over_is =
     record {
       request = request;
       fits = fits;
-      moment = moment;
-      reply = reply;
-      later = answered.next;
+      outcome = answered.outcome;
       answers = answered.answers;
-      moves = record { reads = read; writes = wrote; takes = clocked; stands = answered.stands };
-      begins_is = begins_is ∙ omega arith;
-      entries_is = answered.count;
-      place_is = answered.place_is;
+      moves = record { reads = read; ends_stay = ends; writes = subst (λ r. Appends taken taken' r) (sym answered.reply_is) wrote; takes = answered.takes; stands = answered.stands };
+      begins_is = begins_is;
+      over_is = over_is;
+      is_at = answered.is_at;
     }
+
+-- a frame has seven bytes and its body
+pub frame_length : (request : Message) → length (frame_of request) ≡ 7 + length (body_of request)
+frame_length request = length-append (message_head (kind_of request) (length (body_of request))) (body_of request)
+
+-- far from the largest place the next frame begins right behind a request
+pub begins_next : (begins begins' : ℕ) (request : Message) → IsRequest request → begins + 2097159 < 2 ^ 64
+    → begins' ≡ place_after begins (length (frame_of request)) → begins' ≡ begins + length (frame_of request)
+begins_next begins begins' request fits far is = omega (arith, is, frame_length request, fits.within)

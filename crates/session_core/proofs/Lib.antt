@@ -1,8 +1,12 @@
+pub mod AcceptedPairs
 pub mod AnswerLemmas
 pub mod EndLemmas
 pub mod KeptLemmas
-pub mod OneLemmas
-pub mod PrepareLemmas
+pub mod OneAnswer
 pub mod RequestLemmas
+pub mod RulesBroken
+pub mod RunParts
+pub mod SealedOpens
 pub mod SessionLemmas
+pub mod StreamLemmas
 pub mod TurnLemmas

@@ -1,165 +1,379 @@
--- What is known of a stream whose front was read: whether it begins with a request.
-use Rattle.std.proofs.Common.{◌≡◌, ◌≢◌, ℕ, ◌+◌, ◌-◌, ◌<◌, ◌≤◌, ◌^◌, List, [], ◌++◌, length, take, drop, replicate, Option, None, Some, refl, sym, ap, ◌∙◌, subst, arith, inl, inr}
-use Rattle.std.proofs.lemmas.List.{length-append, length-replicate, append_assoc, take_at}
+-- What is known of a stream of which a part of a request was read.
+use Rattle.std.proofs.Common.{◌≡◌, ◌≢◌, ℕ, ◌+◌, ◌-◌, ◌<◌, ◌≤◌, ◌^◌, ◌⊎◌, List, [], ◌++◌, length, take, drop, replicate, get_or, refl, sym, ap, ◌∙◌, subst, arith, inl, inr, lit<}
+use Rattle.std.proofs.lemmas.Bool.{cases_lt}
+use Rattle.std.proofs.lemmas.List.{append_assoc, append-nil, get_or-append_right, get_or_append_left, get_or-replicate, get_or-take, get_or_past, length-append, length-replicate, length-take, nil_from_length}
 use Rattle.std.proofs.lemmas.Nat.{from_be_bytes-to_be_bytes_4}
 use Rattle.std.proofs.Math.Seq.{take-length}
 use Rattle.std.specs.Int.{w32, from_be_bytes}
-use Rattle.std.specs.Io.KnownBytes.{Consumes, Keeps}
+use Rattle.std.specs.Io.KnownBytes.{Consumes}
 use Rattle.byte_io.proofs.StreamLemmas.{consumes_more}
-use Rattle.session_core.specs.declared.request.Kind.{Kind}
-use Rattle.session_core.specs.declared.request.Kind.TheVariants as kind
+use Rattle.munge_types.specs.BigEndian.{be32}
+use Rattle.munge_types.specs.Bytes.{IsBytes}
+use Rattle.wire_msg.specs.Feeding.{Answers, Feeding, Leaves}
+use Rattle.wire_msg.specs.Fits.{IsMessage}
+use Rattle.wire_msg.specs.Frame.{BeginsFrame, IsFrame, IsFramePrefix, IsUnfinished}
+use Rattle.wire_msg.specs.FrameHead.{body_limit, head_size}
+use Rattle.wire_msg.specs.Spelling.{body_of, frame_of}
+use Rattle.wire_msg.specs.declared.fed.Fed.TheVariants as fed
+use Rattle.wire_msg.specs.declared.kind.Side.{Side}
+use Rattle.wire_msg.specs.declared.kind.Side.TheVariants.{Requests}
+use Rattle.wire_msg.specs.declared.message.Message.{Message}
+use Rattle.session_core.specs.Partial.{Comes, HeadRefused, KeepsOf, ReadsOn, Stops, Wants}
+use Rattle.session_core.specs.Reading.{IsLessThanOne, broken, cut, Reads, ReadsNone}
+use Rattle.session_core.specs.Things.{CameToEnd, Input}
+use Rattle.session_core.specs.declared.request.Progress.{Progress}
+use Rattle.session_core.specs.declared.request.Progress.TheVariants.{Whole, Partial}
 use Rattle.session_core.specs.declared.request.Unread.{Unread}
 use Rattle.session_core.specs.declared.request.Unread.TheVariants.{Ended, Malformed, ReadFault, NoMemory}
-use Rattle.munge_types.specs.BigEndian.{be32}
-use Rattle.session_core.specs.ClientMessage.{Request, Encode, Decode, IsRequest, BeginsRequest, IsRequestPrefix, asked_size, body_limit, body_of, kind_of, message, message_head}
-use Rattle.session_core.specs.Reading.{IsUnfinished, IsNoRequest, ReadsNone, StopsInBody}
-use Rattle.session_core.specs.RequestHead.{AllowsSize, kind_number, request_of}
 
--- a head names one size
-pub be32_injective : (m n : ℕ) → m < 2 ^ 32 → n < 2 ^ 32 → be32 m ≡ be32 n → m ≡ n
+-- ---- lists that are bytes
+
+append_bytes : (xs ys : List ℕ) → IsBytes xs → IsBytes ys → IsBytes (xs ++ ys)
+append_bytes xs ys first second i =
+    elim (cases_lt i (length xs)) [
+      | inl inside ↦ rw (get_or_append_left xs ys 0 i inside) (first i)
+      | inr past ↦ rw (get_or-append_right xs ys (length xs) i 0 refl past) (second (i - length xs))
+    ]
+
+take_bytes : (n : ℕ) (xs : List ℕ) → IsBytes xs → IsBytes (take n xs)
+take_bytes n xs bytes i =
+    elim (cases_lt i n) [
+      | inl inside ↦ rw (get_or-take n xs i 0 inside) (bytes i)
+      | inr past ↦
+          let short : length (take n xs) ≤ i = simp length-take (omega arith) in
+          rw (get_or_past (take n xs) i 0 short) (lit< tt)
+    ]
+
+-- what stands in front of other bytes is bytes too
+pub front_bytes : (xs ys : List ℕ) → IsBytes (xs ++ ys) → IsBytes xs
+front_bytes xs ys bytes i =
+    elim (cases_lt i (length xs)) [
+      | inl inside ↦ subst (λ n. n < 256) (get_or_append_left xs ys 0 i inside) (bytes i)
+      | inr past ↦ rw (get_or_past xs i 0 past) (lit< tt)
+    ]
+
+zero_bytes : (n : ℕ) → IsBytes (replicate n 0)
+zero_bytes n i =
+    let zeros : List ℕ = replicate n 0 in
+    elim (cases_lt i n) [
+      | inl inside ↦ rw (get_or-replicate {A = ℕ} n i 0 0 inside) (lit< tt)
+      | inr past ↦
+          let size : length zeros ≡ n = length-replicate n 0 in
+          rw (get_or_past zeros i 0 (omega (arith, size))) (lit< tt)
+    ]
+
+-- ---- frames
+
+-- a frame is a head and a body
+frame_size : (message : Message) → length (frame_of message) ≡ head_size + length (body_of message)
+frame_size message = omega arith
+
+-- a length is spelled in one way
+be32_injective : (m n : ℕ) → m < 2 ^ 32 → n < 2 ^ 32 → be32 m ≡ be32 n → m ≡ n
 be32_injective m n m_fits n_fits same =
     sym (from_be_bytes-to_be_bytes_4 m m_fits) ∙ ap (from_be_bytes w32) same ∙ from_be_bytes-to_be_bytes_4 n n_fits
 
-pub head_injective : (k l m n : ℕ) → m ≤ body_limit → n ≤ body_limit → message_head k m ≡ message_head l n → m ≡ n
-head_injective k l m n m_within n_within same =
-    be32_injective m n (omega arith) (omega arith) (ap (drop 3) same)
+-- nothing stands behind a frame where that is a frame too
+nothing_behind : (first second : Message) (rest : List ℕ) → length (body_of first) ≤ body_limit → length (body_of second) ≤ body_limit
+    → frame_of first ++ rest ≡ frame_of second → length rest ≡ 0
+nothing_behind first second rest first_within second_within same =
+    let sizes : length (body_of first) ≡ length (body_of second) =
+    be32_injective (length (body_of first)) (length (body_of second)) (omega arith) (omega arith) (ap (λ l. take 4 (drop 3 l)) same) in
+    let lengths = ap length same in
+    omega (arith, length-append (frame_of first) rest, frame_size first, frame_size second, lengths, sizes)
 
--- a size that a kind allows is that of a body
-pub allowed_within : (kind : Kind) (size : ℕ) → AllowsSize kind size → size ≤ body_limit
-allowed_within kind.Encode size allowed = allowed.1
-allowed_within kind.Decode size allowed = allowed
+-- what is not all of a frame begins with none
+unfinished_begins_none : (side : Side) (bytes : List ℕ) → IsUnfinished side bytes → ¬ BeginsFrame side bytes
+unfinished_begins_none side bytes unfinished begins =
+    let first = begins.is_frame in
+    let second = unfinished.completed in
+    let rest = begins.rest ++ unfinished.rest in
+    let joined : frame_of first.message ++ rest ≡ frame_of second.message =
+    ap (λ l. l ++ rest) (sym first.spelled) ∙ sym (append_assoc begins.frame begins.rest unfinished.rest)
+    ∙ ap (λ l. l ++ unfinished.rest) (sym begins.begins) ∙ second.spelled in
+    let none = nothing_behind first.message second.message rest first.is_message.within second.is_message.within joined in
+    unfinished.wants_some (nil_from_length unfinished.rest (omega (arith, none, length-append begins.rest unfinished.rest)))
 
--- the kind of a request
-abbrev pub kind_for : Request → Kind
-kind_for (Encode body) = kind.Encode
-kind_for (Decode text) = kind.Decode
+frame_not_unfinished : (side : Side) (bytes : List ℕ) → IsFrame side bytes → IsUnfinished side bytes → ⊥
+frame_not_unfinished side bytes frame unfinished =
+    unfinished_begins_none side bytes unfinished
+    (record { frame = bytes; rest = []; is_frame = frame; begins = sym (append-nil bytes) })
 
-pub request_kind : (request : Request) → kind_of request ≡ kind_number (kind_for request)
-request_kind (Encode body) = refl
-request_kind (Decode text) = refl
+unfinished_prefix : (side : Side) (bytes : List ℕ) → IsUnfinished side bytes → IsFramePrefix side bytes
+unfinished_prefix side bytes unfinished = record { rest = unfinished.rest; completed = unfinished.completed }
 
--- a request's kind allows the size of its body
-pub request_allowed : (request : Request) → IsRequest request → AllowsSize (kind_for request) (length (body_of request))
-request_allowed (Encode body) fits = fits
-request_allowed (Decode text) fits = fits
+unfinished_less : (bytes : List ℕ) → IsUnfinished Requests bytes → IsLessThanOne bytes
+unfinished_less bytes unfinished =
+    record {
+      begins_none = unfinished_begins_none Requests bytes unfinished;
+      within = inr (unfinished_prefix Requests bytes unfinished);
+    }
 
-pub request_within : (request : Request) → IsRequest request → length (body_of request) ≤ body_limit
-request_within request fits = allowed_within (kind_for request) (length (body_of request)) (request_allowed request fits)
+-- ---- a head
 
--- a body of a size that its kind allows makes a request
-pub request_fits : (kind : Kind) (size : ℕ) (body : List ℕ) → length body ≡ size → AllowsSize kind size → IsRequest (request_of kind body)
-request_fits kind.Encode size body sized allowed =
-    let P : ℕ → Type 0 = λ n. (asked_size ≤ n) × (n ≤ body_limit) in subst P (sym sized) allowed
-request_fits kind.Decode size body sized allowed =
-    let P : ℕ → Type 0 = λ n. n ≤ body_limit in subst P (sym sized) allowed
-
--- its message is a head of that kind and size, and the body
-pub message_of_kind : (kind : Kind) (size : ℕ) (body : List ℕ) → length body ≡ size → message_head (kind_number kind) size ++ body ≡ message (request_of kind body)
-message_of_kind kind.Encode size body sized = ap (λ n. message_head 1 n ++ body) (sym sized)
-message_of_kind kind.Decode size body sized = ap (λ n. message_head 3 n ++ body) (sym sized)
-
-pub body_of_kind : (kind : Kind) (body : List ℕ) → body_of (request_of kind body) ≡ body
-body_of_kind kind.Encode body = refl
-body_of_kind kind.Decode body = refl
-
--- what begins with a request has its head in front
-pub begins_with_head : (bytes : List ℕ) (begins : BeginsRequest bytes) → take 7 bytes ≡ message_head (kind_of begins.request) (length (body_of begins.request))
-begins_with_head bytes begins = ap (take 7) begins.begins
-
--- a request has at least seven bytes and its body
-pub length-begins : (bytes : List ℕ) (begins : BeginsRequest bytes) → 7 + length (body_of begins.request) ≤ length bytes
-length-begins bytes begins =
+-- what begins with a frame has a head at least, and what is behind it
+begins_size : (side : Side) (bytes : List ℕ) (begins : BeginsFrame side bytes) → head_size + length begins.rest ≤ length bytes
+begins_size side bytes begins =
     let whole = ap length begins.begins in
-    omega (arith, whole, length-append (body_of begins.request) begins.rest)
+    let spelled = ap length begins.is_frame.spelled in
+    omega (arith, whole, spelled, length-append begins.frame begins.rest, frame_size begins.is_frame.message)
 
--- fewer than seven bytes are no request
-pub unfinished_head : (bytes : List ℕ) → length bytes < 7 → IsUnfinished bytes
-unfinished_head bytes short =
-    record { begins_none = λ begins. omega (arith, length-begins bytes begins); is_front = inl short }
+pub short_head : (bytes : List ℕ) → length bytes < head_size → IsLessThanOne bytes
+short_head bytes short =
+    record { begins_none = λ begins. omega (arith, begins_size Requests bytes begins); within = inl short }
 
--- seven bytes that are the head of no request are no front of one
-pub no_request : (bytes : List ℕ) → ((kind : Kind) (size : ℕ) → AllowsSize kind size → bytes ≢ message_head (kind_number kind) size)
-    → (request : Request) → IsRequest request → bytes ≢ message_head (kind_of request) (length (body_of request))
-no_request bytes no_head request fits same =
-    no_head (kind_for request) (length (body_of request)) (request_allowed request fits)
-    (same ∙ ap (λ k. message_head k (length (body_of request))) (request_kind request))
+take_all : (n : ℕ) (bytes : List ℕ) → n ≡ length bytes → take n bytes ≡ bytes
+take_all n bytes all = ap (λ m. take m bytes) all ∙ take-length bytes
 
--- seven bytes that are no head begin no request, and are a prefix of none
-pub no_head : (ended : Type 0) (bytes : List ℕ) → length bytes ≡ 7
-    → ((kind : Kind) (size : ℕ) → AllowsSize kind size → bytes ≢ message_head (kind_number kind) size) → IsNoRequest ended bytes
-no_head ended bytes seven none =
-    let all : take 7 bytes ≡ bytes = ap (λ n. take n bytes) (sym seven) ∙ take-length bytes in
+-- a frame that ends within a head is the head
+head_whole : (used : ℕ) (head : List ℕ) (message : Message) → length head ≡ head_size → used ≤ length head
+    → take used head ≡ frame_of message → head ≡ frame_of message
+head_whole used head message seven within same =
+    let sizes = ap length same in
+    let all : used ≡ length head = omega (arith, frame_size message, simp length-take at sizes) in
+    sym (take_all used head all) ∙ same
+
+-- a head that begins with a frame, or is a front of one, is a prefix of one
+head_prefix : (side : Side) (head : List ℕ) → length head ≡ head_size → BeginsFrame side head ⊎ IsUnfinished side head → IsFramePrefix side head
+head_prefix side head seven (inl begins) =
+    let none : begins.rest ≡ [] = nil_from_length begins.rest (omega (arith, begins_size side head begins)) in
+    let all : begins.frame ≡ head ++ [] =
+    sym (append-nil begins.frame) ∙ ap (λ l. begins.frame ++ l) (sym none) ∙ sym begins.begins ∙ sym (append-nil head) in
+    record { rest = []; completed = subst (IsFrame side) all begins.is_frame }
+head_prefix side head seven (inr unfinished) = unfinished_prefix side head unfinished
+
+-- ---- what is wanted, and a piece of that
+
+-- a piece that is not too long is a part of a request, and its rest may be zeros
+padded : (bytes part : List ℕ) (n : ℕ) → Wants bytes n → IsBytes part → length part ≤ n
+    → IsFrame Requests ((bytes ++ part) ++ replicate (n - length part) 0)
+padded bytes part n wants part_bytes within =
+    let zeros : List ℕ = replicate (n - length part) 0 in
+    let size : length (part ++ zeros) ≡ n =
+    length-append part zeros ∙ ap (λ m. length part + m) (length-replicate (n - length part) 0) ∙ omega arith in
+    subst (IsFrame Requests) (sym (append_assoc bytes part zeros))
+    (wants.enough (part ++ zeros) (append_bytes part zeros part_bytes (zero_bytes (n - length part))) size)
+
+pub part_prefix : (bytes part : List ℕ) (n : ℕ) → Wants bytes n → IsBytes part → length part ≤ n → IsFramePrefix Requests (bytes ++ part)
+part_prefix bytes part n wants part_bytes within =
+    record { rest = replicate (n - length part) 0; completed = padded bytes part n wants part_bytes within }
+
+part_unfinished : (bytes part : List ℕ) (n : ℕ) → Wants bytes n → IsBytes part → length part < n → IsUnfinished Requests (bytes ++ part)
+part_unfinished bytes part n wants part_bytes short =
     record {
-      some = λ nothing. let empty : length bytes ≡ 0 = ap length nothing in omega (arith, empty, seven);
-      begins_none = λ begins. no_request bytes none begins.request begins.fits (sym all ∙ begins_with_head bytes begins);
-      goes_on_to_none = inl (λ prefix.
-          no_request bytes none prefix.request prefix.fits
-          (sym (take_at bytes prefix.rest 7 seven) ∙ ap (take 7) prefix.completed));
+      rest = replicate (n - length part) 0;
+      wants_some = λ none.
+          let empty = ap length none in
+          let size = length-replicate {A = ℕ} (n - length part) 0 in
+          omega (arith, short, empty, size);
+      completed = padded bytes part n wants part_bytes (omega arith);
     }
 
--- a head and a front of its body are a prefix of a request
-pub part_prefix : (kind : Kind) (size : ℕ) (part : List ℕ) → AllowsSize kind size → length part ≤ size → IsRequestPrefix (message_head (kind_number kind) size ++ part)
-part_prefix kind size part allowed fits =
-    let zeros : List ℕ = replicate (size - length part) 0 in
-    let sized : length (part ++ zeros) ≡ size =
-    length-append part zeros ∙ ap (λ n. length part + n) (length-replicate (size - length part) 0) ∙ omega arith in
+-- a request that ends within a piece of what is wanted ends with it
+piece_whole : (bytes piece : List ℕ) (n used : ℕ) (message : Message) → Wants bytes n → length piece ≤ n → used ≤ length piece
+    → IsMessage Requests message → bytes ++ take used piece ≡ frame_of message → bytes ++ piece ≡ frame_of message
+piece_whole bytes piece n used message wants within inside is_message same =
+    let needs : n ≤ length (take used piece) =
+    wants.least (take used piece) (record { message = message; is_message = is_message; spelled = same }) in
+    let all : used ≡ length piece = omega (arith, simp length-take at needs) in
+    ap (λ l. bytes ++ l) (sym (take_all used piece all)) ∙ same
+
+-- where a request does not, the rest is wanted
+piece_more : (bytes piece : List ℕ) (n : ℕ) → Wants bytes n → IsBytes piece → length piece ≤ n
+    → IsUnfinished Requests (bytes ++ piece) → Wants (bytes ++ piece) (n - length piece)
+piece_more bytes piece n wants piece_bytes within unfinished =
     record {
-      request = request_of kind (part ++ zeros);
-      rest = zeros;
-      fits = request_fits kind size (part ++ zeros) sized allowed;
-      completed = append_assoc (message_head (kind_number kind) size) part zeros ∙ message_of_kind kind size (part ++ zeros) sized;
+      enough = λ more more_bytes size.
+          let sizes : length (piece ++ more) ≡ n = length-append piece more ∙ omega arith in
+          subst (IsFrame Requests) (sym (append_assoc bytes piece more))
+          (wants.enough (piece ++ more) (append_bytes piece more piece_bytes more_bytes) sizes);
+      least = λ more frame.
+          let needs = wants.least (piece ++ more) (subst (IsFrame Requests) (append_assoc bytes piece more) frame) in
+          omega (arith, needs, length-append piece more);
+      some = elim (cases_lt (length piece) n) [
+        | inl short ↦ omega arith
+        | inr long ↦
+            let all : length piece ≡ n = omega arith in
+            absurd (frame_not_unfinished Requests (bytes ++ piece) (wants.enough piece piece_bytes all) unfinished)
+      ];
     }
 
--- a head is a prefix of a request
-pub head_prefix : (kind : Kind) (size : ℕ) → AllowsSize kind size → IsRequestPrefix (message_head (kind_number kind) size)
-head_prefix kind size allowed = part_prefix kind size [] allowed (omega arith)
+-- ---- what a feeder answers
 
--- a head and less than its body is less than a request
-pub unfinished_body : (kind : Kind) (size : ℕ) (part : List ℕ) → AllowsSize kind size → length part < size → IsUnfinished (message_head (kind_number kind) size ++ part)
-unfinished_body kind size part allowed short =
+pub head_comes : (kept : Feeding) (head : List ℕ) (message : Message) (used : ℕ) → kept.side ≡ Requests → kept.unfinished ≡ []
+    → length head ≡ head_size → Answers kept head (fed.Message message used) → Comes head (Whole message)
+head_comes kept head message used requests none seven answers = (
+  subst (λ side. IsMessage side message) requests answers.0,
+  head_whole used head message seven answers.1 (ap (λ l. l ++ take used head) (sym none) ∙ answers.2),
+)
+
+pub head_no_memory : (kept : Feeding) (head : List ℕ) → kept.side ≡ Requests → kept.unfinished ≡ [] → length head ≡ head_size
+    → BeginsFrame kept.side (kept.unfinished ++ head) ⊎ IsUnfinished kept.side (kept.unfinished ++ head) → IsFramePrefix Requests head
+head_no_memory kept head requests none seven begun =
+    head_prefix Requests head seven
+    (subst (λ l. BeginsFrame Requests (l ++ head) ⊎ IsUnfinished Requests (l ++ head)) none
+    (subst (λ side. BeginsFrame side (kept.unfinished ++ head) ⊎ IsUnfinished side (kept.unfinished ++ head)) requests begun))
+
+-- what is wanted behind a head
+pub head_wants : (kept kept' : Feeding) (head : List ℕ) (n : ℕ) → kept.side ≡ Requests → kept'.side ≡ kept.side → kept.unfinished ≡ []
+    → length head ≡ head_size → Answers kept head fed.More → Leaves kept head fed.More kept'
+    → ((piece : List ℕ) → IsFrame kept'.side (kept'.unfinished ++ piece) → n ≤ length piece)
+    → (IsUnfinished kept'.side kept'.unfinished → head_size ≤ length kept'.unfinished → (piece : List ℕ) → IsBytes piece
+    → length piece ≡ n → IsFrame kept'.side (kept'.unfinished ++ piece))
+    → (IsUnfinished kept'.side kept'.unfinished → 1 ≤ n) → Wants head n
+head_wants kept kept' head n requests same_side none seven answers leaves least enough some =
+    let same : kept'.unfinished ≡ head = leaves.0 ∙ ap (λ l. l ++ head) none in
+    let requests' : kept'.side ≡ Requests = same_side ∙ requests in
+    let begun : IsUnfinished kept'.side kept'.unfinished =
+    subst (λ side. IsUnfinished side kept'.unfinished) (sym same_side) (subst (IsUnfinished kept.side) (sym leaves.0) answers) in
+    let whole : head_size ≤ length kept'.unfinished = omega (arith, ap length same) in
     record {
-      begins_none = λ begins.
-          let same = head_injective (kind_number kind) (kind_of begins.request) size (length (body_of begins.request))
-          (allowed_within kind size allowed) (request_within begins.request begins.fits) (begins_with_head _ begins) in
-          omega (arith, length-begins (message_head (kind_number kind) size ++ part) begins, same);
-      is_front = inr (part_prefix kind size part allowed (omega arith));
+      enough = λ piece bytes size.
+          subst (λ l. IsFrame Requests (l ++ piece)) same
+          (subst (λ side. IsFrame side (kept'.unfinished ++ piece)) requests' (enough begun whole piece bytes size));
+      least = λ piece frame.
+          least piece
+          (subst (λ side. IsFrame side (kept'.unfinished ++ piece)) (sym requests') (subst (λ l. IsFrame Requests (l ++ piece)) (sym same) frame));
+      some = some begun;
     }
 
--- what was read stays so where nothing more is
-pub consumes_kept : (a b c : Option (List ℕ)) (bytes : List ℕ) → Consumes a b bytes → Keeps b c → Consumes a c bytes
-consumes_kept None b c bytes read kept = tt
-consumes_kept (Some xs) None c bytes read kept = absurd read
-consumes_kept (Some xs) (Some ys) None bytes read kept = absurd kept
-consumes_kept (Some xs) (Some ys) (Some zs) bytes read kept = read ∙ ap (λ l. bytes ++ l) (sym kept)
+pub piece_comes : (kept : Feeding) (piece : List ℕ) (n : ℕ) (message : Message) (used : ℕ) → kept.side ≡ Requests → Wants kept.unfinished n
+    → length piece ≤ n → Answers kept piece (fed.Message message used) → Comes (kept.unfinished ++ piece) (Whole message)
+piece_comes kept piece n message used requests wants within answers =
+    let is_message = subst (λ side. IsMessage side message) requests answers.0 in
+    (is_message, piece_whole kept.unfinished piece n used message wants within answers.1 is_message answers.2)
 
--- what was read where the body of a request came whole behind its head
-pub head_and_body : (kind : Kind) (size : ℕ) (a b c : Option (List ℕ)) (body : List ℕ) → length body ≡ size
-    → Consumes a b (message_head (kind_number kind) size) → Consumes b c body → Consumes a c (message (request_of kind body))
-head_and_body kind size a b c body sized head read =
-    subst (λ bytes. Consumes a c bytes) (message_of_kind kind size body sized) (consumes_more a b c (message_head (kind_number kind) size) body head read)
+pub piece_wants : (kept : Feeding) (piece : List ℕ) (n : ℕ) → kept.side ≡ Requests → Wants kept.unfinished n → IsBytes piece
+    → length piece ≤ n → Answers kept piece fed.More → Wants (kept.unfinished ++ piece) (n - length piece)
+piece_wants kept piece n requests wants bytes within answers =
+    piece_more kept.unfinished piece n wants bytes within
+    (subst (λ side. IsUnfinished side (kept.unfinished ++ piece)) requests answers)
 
--- what was read where it did not
-pub head_and_stop : (cause : Unread) (kind : Kind) (size : ℕ) (a b c : Option (List ℕ)) (f g h e d i : ℕ) → AllowsSize kind size
-    → Consumes a b (message_head (kind_number kind) size) → g ≡ f → d ≡ e
-    → StopsInBody cause size b c g h d i → ReadsNone cause a c f h e i
-head_and_stop Ended kind size a b c f g h e d i allowed head same_faults same_ends stops = absurd stops
-head_and_stop Malformed kind size a b c f g h e d i allowed head same_faults same_ends stops = (
-  record {
-    bytes = message_head (kind_number kind) size ++ stops.0.bytes;
-    consumed = consumes_more a b c _ _ head stops.0.consumed;
-    holds = record { some = λ none. cc; begins_none = (unfinished_body kind size stops.0.bytes allowed stops.0.holds).begins_none; goes_on_to_none = inr (rw (← same_ends) stops.2.0, stops.2.1) };
-  },
-  stops.1 ∙ same_faults,
-)
-head_and_stop ReadFault kind size a b c f g h e d i allowed head same_faults same_ends stops = (
-  record {
-    bytes = message_head (kind_number kind) size ++ stops.0.bytes;
-    consumed = consumes_more a b c _ _ head stops.0.consumed;
-    holds = unfinished_body kind size stops.0.bytes allowed stops.0.holds;
-  },
-  rw (← same_faults) stops.1,
-)
-head_and_stop NoMemory kind size a b c f g h e d i allowed head same_faults same_ends stops = (
-  record { bytes = message_head (kind_number kind) size; consumed = consumes_kept a b c _ head stops.0; holds = head_prefix kind size allowed },
-  stops.1 ∙ same_faults,
-)
+pub piece_not_bad : (kept : Feeding) (piece : List ℕ) (n place : ℕ) → kept.side ≡ Requests → Wants kept.unfinished n → IsBytes piece
+    → length piece ≤ n → Answers kept piece (fed.Bad place) → ⊥
+piece_not_bad kept piece n place requests wants bytes within answers =
+    answers.0.goes_on_to_none
+    (subst (λ side. IsFramePrefix side (kept.unfinished ++ piece)) (sym requests) (part_prefix kept.unfinished piece n wants bytes within))
+
+-- less than a piece of what is wanted
+pub piece_cut : (bytes piece : List ℕ) (n read : ℕ) → Wants bytes n → IsBytes piece → length piece ≤ n → read < length piece
+    → IsUnfinished Requests (bytes ++ take read piece)
+piece_cut bytes piece n read wants piece_bytes within short =
+    part_unfinished bytes (take read piece) n wants (take_bytes read piece piece_bytes) (simp length-take (omega arith))
+
+-- ---- reads, one after another
+
+-- the end was found later as well
+end_since : (a b c : Input) → a.ends ≤ b.ends → CameToEnd b c → CameToEnd a c
+end_since a b c stays came = record { found = omega (arith, stays, came.found); nothing_left = came.nothing_left }
+
+-- what holds of the bytes behind the second ones holds behind the first
+reads_more : (a b c : Input) (so_far so_far' : List ℕ) (P : List ℕ → Type 0) → Reads a b (λ bytes. so_far' ≡ so_far ++ bytes)
+    → Reads b c (λ bytes. P (so_far' ++ bytes)) → Reads a c (λ bytes. P (so_far ++ bytes))
+reads_more a b c so_far so_far' P first second =
+    let joined : so_far' ++ second.bytes ≡ so_far ++ (first.bytes ++ second.bytes) =
+    ap (λ l. l ++ second.bytes) first.holds ∙ append_assoc so_far first.bytes second.bytes in
+    record {
+      bytes = first.bytes ++ second.bytes;
+      consumed = consumes_more a.left b.left c.left first.bytes second.bytes first.consumed second.consumed;
+      holds = subst P joined second.holds;
+    }
+
+-- a stop in the rest of a request is one in all of it
+pub stops_more : (cause : Unread) (a b c : Input) (so_far so_far' : List ℕ) → a.ends ≤ b.ends → Reads a b (λ bytes. so_far' ≡ so_far ++ bytes)
+    → Stops cause so_far' b c → Stops cause so_far a c
+stops_more Ended a b c so_far so_far' stays first stops = absurd stops
+stops_more Malformed a b c so_far so_far' stays first stops =
+    (reads_more a b c so_far so_far' (IsUnfinished Requests) first stops.0, end_since a b c stays stops.1)
+stops_more ReadFault a b c so_far so_far' stays first stops = reads_more a b c so_far so_far' (IsUnfinished Requests) first stops
+stops_more NoMemory a b c so_far so_far' stays first stops = reads_more a b c so_far so_far' (IsFramePrefix Requests) first stops
+
+-- so is what came of it
+pub reads_on_more : (a b c : Input) (kept kept' kept'' : Feeding) (progress : Progress) → kept'.begins ≡ kept.begins
+    → Reads a b (λ bytes. kept'.unfinished ≡ kept.unfinished ++ bytes) → ReadsOn kept' b c progress kept'' → ReadsOn kept a c progress kept''
+reads_on_more a b c kept kept' kept'' progress same first second =
+    reads_more a b c kept.unfinished kept'.unfinished (λ bytes. Comes bytes progress × KeepsOf kept.begins bytes progress kept'') first
+    (subst (λ begins. Reads b c (λ bytes. Comes (kept'.unfinished ++ bytes) progress × KeepsOf begins (kept'.unfinished ++ bytes) progress kept'')) same second)
+
+-- where it stays a part, the feeder keeps what was read
+reads_part : (a b : Input) (kept kept' : Feeding) (wanted : ℕ) → ReadsOn kept a b (Partial wanted) kept'
+    → Reads a b (λ bytes. kept'.unfinished ≡ kept.unfinished ++ bytes)
+reads_part a b kept kept' wanted reads = record { bytes = reads.bytes; consumed = reads.consumed; holds = reads.holds.1.0 }
+
+part_wants : (a b : Input) (kept kept' : Feeding) (wanted : ℕ) → ReadsOn kept a b (Partial wanted) kept' → Wants kept'.unfinished wanted
+part_wants a b kept kept' wanted reads = subst (λ bytes. Wants bytes wanted) (sym reads.holds.1.0) reads.holds.0
+
+part_begins : (a b : Input) (kept kept' : Feeding) (wanted : ℕ) → ReadsOn kept a b (Partial wanted) kept' → kept'.begins ≡ kept.begins
+part_begins a b kept kept' wanted reads = reads.holds.1.1
+
+reads_first : (a b : Input) (kept kept' : Feeding) (wanted : ℕ) → kept.unfinished ≡ [] → ReadsOn kept a b (Partial wanted) kept'
+    → Reads a b (λ bytes. kept'.unfinished ≡ bytes)
+reads_first a b kept kept' wanted none reads =
+    record { bytes = reads.bytes; consumed = reads.consumed; holds = reads.holds.1.0 ∙ ap (λ l. l ++ reads.bytes) none }
+
+-- a part of a request is some bytes
+wants_begun : (bytes : List ℕ) (n : ℕ) → Wants bytes n → bytes ≢ []
+wants_begun bytes n wants none =
+    let some : 0 < n = wants.some in
+    let size : length (replicate {A = ℕ} n 0) ≡ n = length-replicate n 0 in
+    let frame = wants.enough (replicate n 0) (zero_bytes n) size in
+    let first : get_or (replicate n 0) 0 0 ≡ 0x4d =
+    ap (λ l. get_or (l ++ replicate n 0) 0 0) (sym none) ∙ ap (λ l. get_or l 0 0) frame.spelled in
+    let zero = get_or-replicate {A = ℕ} n 0 0 0 some in
+    omega (arith, first, zero)
+
+-- what was read of a request's body is behind some bytes that were read before
+stopped : (a b c : Input) (so_far : List ℕ) → so_far ≢ [] → Reads a b (λ bytes. so_far ≡ bytes)
+    → Reads b c (λ more. IsUnfinished Requests (so_far ++ more)) → Reads a c (λ bytes. (bytes ≢ []) × IsUnfinished Requests bytes)
+stopped a b c so_far begun first second =
+    reads_more a b c [] so_far (λ bytes. (bytes ≢ []) × IsUnfinished Requests bytes) first
+    (record {
+      bytes = second.bytes;
+      consumed = second.consumed;
+      holds = (
+        λ none.
+            let empty = ap length none in
+            begun (nil_from_length so_far (omega (arith, empty, length-append so_far second.bytes))),
+        second.holds,
+      );
+    })
+
+-- no request was read where its body stops
+pub body_none : (cause : Unread) (a b c : Input) (kept kept' : Feeding) (wanted : ℕ) → kept.unfinished ≡ [] → a.ends ≤ b.ends
+    → ReadsOn kept a b (Partial wanted) kept' → Stops cause kept'.unfinished b c → ReadsNone cause a c
+body_none Ended a b c kept kept' wanted none stays first stops = absurd stops
+body_none Malformed a b c kept kept' wanted none stays first stops =
+    let begun = wants_begun kept'.unfinished wanted (part_wants a b kept kept' wanted first) in
+    let all = stopped a b c kept'.unfinished begun (reads_first a b kept kept' wanted none first) stops.0 in
+    record {
+      bytes = all.bytes;
+      consumed = all.consumed;
+      holds = cut (end_since a b c stays stops.1) all.holds.0 (unfinished_less all.bytes all.holds.1);
+    }
+body_none ReadFault a b c kept kept' wanted none stays first stops =
+    let begun = wants_begun kept'.unfinished wanted (part_wants a b kept kept' wanted first) in
+    let all = stopped a b c kept'.unfinished begun (reads_first a b kept kept' wanted none first) stops in
+    record { bytes = all.bytes; consumed = all.consumed; holds = unfinished_less all.bytes all.holds.1 }
+body_none NoMemory a b c kept kept' wanted none stays first stops =
+    reads_more a b c [] kept'.unfinished (IsFramePrefix Requests) (reads_first a b kept kept' wanted none first) stops
+
+-- where a feeder kept nothing before, all of a request that it kept part of was read
+request_whole : (a b : Input) (kept kept' : Feeding) (request : Message) → kept.unfinished ≡ [] → ReadsOn kept a b (Whole request) kept'
+    → Consumes a.left b.left (frame_of request)
+request_whole a b kept kept' request none reads =
+    let same : reads.bytes ≡ frame_of request = ap (λ l. l ++ reads.bytes) (sym none) ∙ reads.holds.0.1 in
+    subst (Consumes a.left b.left) same reads.consumed
+
+pub body_read : (a b c : Input) (kept kept' kept'' : Feeding) (wanted : ℕ) (request : Message) → kept.unfinished ≡ []
+    → ReadsOn kept a b (Partial wanted) kept' → ReadsOn kept' b c (Whole request) kept'' → Consumes a.left c.left (frame_of request)
+body_read a b c kept kept' kept'' wanted request none first second =
+    request_whole a c kept kept'' request none
+    (reads_on_more a b c kept kept' kept'' (Whole request) (part_begins a b kept kept' wanted first) (reads_part a b kept kept' wanted first) second)
+
+-- no request was read where its head makes none
+pub head_none : (cause : Unread) (a b : Input) (head : List ℕ) → length head ≡ head_size → Consumes a.left b.left head
+    → HeadRefused cause head → ReadsNone cause a b
+head_none Ended a b head seven read refused = absurd refused
+head_none Malformed a b head seven read refused = record { bytes = head; consumed = read; holds = broken seven refused }
+head_none ReadFault a b head seven read refused = absurd refused
+head_none NoMemory a b head seven read refused = record { bytes = head; consumed = read; holds = refused }

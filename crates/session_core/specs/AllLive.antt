@@ -1,8 +1,11 @@
--- A state that keeps nothing below its floor.
-use Rattle.std.specs.Prelude.{ℕ, ◌≤◌, List}
+-- A replay state that keeps nothing below its floor.
+use Rattle.std.specs.Prelude.{◌≤◌, List}
 use Rattle.std.specs.List.{All}
-use Rattle.munge_types.specs.declared.pair.Pair.{Pair}
+use Rattle.munge_types.specs.StandsFor.{Remembered, Stands}
+use Rattle.munge_types.specs.declared.history.Event.{Event}
 
--- each kept pair expires at the floor or later
-abbrev pub AllLive : (floor : ℕ) → (kept : List Pair) → Type 0
-AllLive floor kept = All (λ pair. floor ≤ pair.expiry) kept
+-- it stands for some history, and each kept pair expires at the floor or later
+pub record AllLive (state : Remembered) : Type 0 where
+  pub history : List Event
+  pub stands : Stands state history
+  pub live : All (λ pair. state.floor ≤ pair.expiry) state.pairs

@@ -1,68 +1,121 @@
-//! Answering a request of either kind.
+//! Answering a request of any kind.
 
-ghost use Rattle.std.specs.Prelude.{◌≡◌, ℕ, ◌+◌, ◌<◌, ◌≤◌, ◌^◌, ◌++◌, List, length, IfOk, OnErr};
+ghost use Rattle.std.specs.Prelude.{◌≡◌, ◌≢◌, ℕ, ◌+◌, ◌<◌, ◌≤◌, ◌^◌, ◌++◌, List, length, IfOk, IfErr};
+ghost use Rattle.byte_io.specs.Counts.{Rose};
 ghost use Rattle.munge_types.specs.StandsFor.{Stands};
+ghost use Rattle.munge_types.specs.Status.{status_number};
 ghost use Rattle.munge_types.specs.declared.history.Event.{Event};
 ghost use Rattle.subkeys.specs.Subkeys.{IsOf};
+ghost use Rattle.wire_msg.specs.Spelling.{frame_of};
+ghost use Rattle.wire_msg.specs.declared.message.Message.TheVariants.{Bye};
 ghost use Rattle.session_core.specs.AllLive.{AllLive};
-ghost use Rattle.session_core.specs.ClientMessage.{IsRequest};
-ghost use Rattle.session_core.specs.RequestTold.{request_told};
+ghost use Rattle.session_core.specs.Answering.{Own, stop_status};
+ghost use Rattle.session_core.specs.Requests.{IsRequest};
 ghost use Rattle.session_core.specs.Seed.{place_of, seed_of};
-ghost use Rattle.session_core.specs.SessionRun.{Own, before_answer};
-ghost use Rattle.session_core.specs.Turn.{IsAnswered};
+ghost use Rattle.session_core.specs.Session.{session_of};
+ghost use Rattle.session_core.specs.Turn.{IsAnswered, IsAt, LeavesUnanswered, stage_of};
 
-use crate::World;
 use crate::decode::decode;
 use crate::encode::encode;
-use crate::request::Request;
+use byte_io::Clock;
 use cred_seal::Dice;
-use munge_types::{Identity, NoMemory, Replay};
+use decode_rules::World;
+use munge_types::{Identity, NoMemory, Replay, Status};
 use std::alloc::Global;
+use wire_msg::{FrameRefused, Message, frame};
 
-/// A reply, and the session's own events up to it.
+/// A reply, and how many events the session has made when it is given.
 #[derive(Drop)]
 pub(crate) struct Answer {
     pub(crate) reply: Vec<u8>,
-    /// How many events the session has made.
     pub(crate) entries: u64,
 }
 
-/// Answers a request at this moment, after so many events of the session's own.
-pub(crate) fn make_answer<R: Replay>(
+/// Why a request is not answered.
+#[derive(Clone, Copy, Debug, PartialEq, Eq)]
+pub(crate) enum Unanswered {
+    /// The clock gave no reading.
+    ClockFault,
+    /// No memory was left.
+    NoMemory,
+}
+
+/// Answers a request, after so many events of the session's own. For an encode or a decode request
+/// the clock is read once.
+pub(crate) fn make_answer<C: Clock, R: Replay>(
     alloc: Global,
+    clock: &mut C,
     replay: &mut R,
     dice: &mut Option<Dice>,
     who: Identity,
     world: &World,
-    moment: u32,
-    request: &Request,
+    request: &Message,
     entries: u64,
-) -> Result<Answer, NoMemory>
-    requires fits { IsRequest (request_told request.now) }
+) -> Result<Answer, Unanswered>
+    requires fits { IsRequest request.now }
     requires few { entries + 2 < 2 ^ 64 }
+
     ensures answered { (key : List ℕ) (base : List Event) (own : Own) → IsOf world.now.subkeys key
         → Stands (R.remembered replay.old) (base ++ own.events)
-        → length own.events ≡ entries → own.place ≡ place_of dice.old
-        → IfOk result (λ answer. IsAnswered key world.now.settings who (seed_of dice.old) base own moment (request_told request.now)
-        answer.reply.items answer.entries (place_of dice.new) (R.remembered replay.new).floor (R.remembered replay.new).pairs) }
-    ensures same_seed { seed_of dice.new ≡ seed_of dice.old }
-    ensures given_up { (base own : List Event)
+        → IsAt own (stage_of entries (place_of dice.old))
+        → IfOk result (λ answer. IsAnswered
+        (session_of world.now who key (seed_of dice.old) base) own request.now answer.reply.items
+        (C.readings clock.old) (C.readings clock.new) (R.remembered replay.new)
+        (stage_of answer.entries (place_of dice.new))) }
+    ensures unanswered { (key : List ℕ) (base own : List Event)
         → Stands (R.remembered replay.old) (base ++ own)
-        → OnErr result (Stands (R.remembered replay.new) (base ++ before_answer base own moment (request_told request.now))) }
+        → IfErr result (LeavesUnanswered
+        (session_of world.now who key (seed_of dice.old) base) own request.now
+        (C.readings clock.old) (C.readings clock.new) (R.remembered replay.new)) }
+
+    ensures clock_fault { result ≡ Err Unanswered.ClockFault
+        → Rose (C.clock_faults clock.old) (C.clock_faults clock.new) }
+    ensures clock_sound { result ≢ Err Unanswered.ClockFault
+        → C.clock_faults clock.new ≡ C.clock_faults clock.old }
+
+    ensures same_seed { seed_of dice.new ≡ seed_of dice.old }
     ensures bound { IfOk result (λ answer. answer.entries ≤ entries + 2) }
-    ensures live { (history : List Event)
-        → Stands (R.remembered replay.old) history
-        → AllLive (R.remembered replay.old).floor (R.remembered replay.old).pairs
-        → AllLive (R.remembered replay.new).floor (R.remembered replay.new).pairs }
+    ensures live { AllLive (R.remembered replay.old) → AllLive (R.remembered replay.new) }
 {
     match request {
-        Request::Encode(body) => {
-            let reply = encode(alloc, dice, who, world, moment, body)?;
-            Ok(Answer { reply, entries })
+        Message::EncodeRequest(ask) => {
+            let Ok(moment) = clock.now() else {
+                return Err(Unanswered::ClockFault);
+            };
+            match encode(alloc, dice, who, world, moment, ask) {
+                Ok(reply) => Ok(Answer { reply, entries }),
+                Err(NoMemory) => Err(Unanswered::NoMemory),
+            }
         }
-        Request::Decode(text) => {
-            let answer = decode(alloc, replay, who, world, moment, text, entries)?;
-            Ok(answer)
+        Message::DecodeRequest(text) => {
+            let Ok(moment) = clock.now() else {
+                return Err(Unanswered::ClockFault);
+            };
+            match decode(alloc, replay, who, world, moment, text.bytes(), entries) {
+                Ok(answer) => Ok(answer),
+                Err(NoMemory) => Err(Unanswered::NoMemory),
+            }
         }
+        Message::Stop => match bye(alloc, who) {
+            Ok(reply) => Ok(Answer { reply, entries }),
+            Err(NoMemory) => Err(Unanswered::NoMemory),
+        },
+        Message::EncodeReply(_) | Message::DecodeReply(_) | Message::Bye(_) => unreachable!(),
+    }
+}
+
+/// The answer to Stop: only a caller who has control may stop.
+fn bye(alloc: Global, who: Identity) -> Result<Vec<u8>, NoMemory>
+    ensures { IfOk result (λ reply. reply.items ≡ frame_of (Bye (status_number (stop_status who)))) }
+{
+    let status = if who.control {
+        Status::Success
+    } else {
+        Status::Unauthorized
+    };
+    match frame(alloc, &Message::Bye(status.number())) {
+        Ok(reply) => Ok(reply),
+        Err(FrameRefused::NoMemory) => Err(NoMemory),
+        Err(FrameRefused::TooLong(_)) => unreachable!(),
     }
 }

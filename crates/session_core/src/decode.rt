@@ -1,24 +1,24 @@
 //! Answering a decode request.
 
-ghost use Rattle.std.specs.Prelude.{◌≡◌, ℕ, ◌+◌, ◌<◌, ◌≤◌, ◌^◌, ◌++◌, List, length, IfOk, OnErr};
+ghost use Rattle.std.specs.Prelude.{◌≡◌, ℕ, ◌+◌, ◌<◌, ◌≤◌, ◌^◌, ◌++◌, List, Option, length, IfOk, OnErr};
 ghost use Rattle.munge_types.specs.StandsFor.{Stands};
 ghost use Rattle.munge_types.specs.declared.history.Event.{Event};
 ghost use Rattle.subkeys.specs.Subkeys.{IsOf};
 ghost use Rattle.session_core.specs.AllLive.{AllLive};
-ghost use Rattle.session_core.specs.SessionRun.{before_decode};
+ghost use Rattle.session_core.specs.Answering.{before_decode};
+ghost use Rattle.session_core.specs.Session.{session_of};
 ghost use Rattle.session_core.specs.Turn.{IsDecoded, IsPurged};
 
-use crate::World;
 use crate::answer::Answer;
-use crate::prepare::{Prepared, prepare};
+use decode_rules::{Prepared, World, complete, prepare};
 use munge_types::{Identity, NoMemory, Replay};
 use std::alloc::Global;
 
 /// How far the moment has to be above the floor for a purge to come before an answer, in seconds.
 const PURGE_INTERVAL: u32 = 60;
 
-/// Answers a decode request with this text at this moment, after so many events of the session's
-/// own.
+/// Answers a decode request with this text at this moment, in seconds since 1970, after so many
+/// events of the session's own.
 pub(crate) fn decode<R: Replay>(
     alloc: Global,
     replay: &mut R,
@@ -29,27 +29,28 @@ pub(crate) fn decode<R: Replay>(
     entries: u64,
 ) -> Result<Answer, NoMemory>
     requires { entries + 2 < 2 ^ 64 }
-    ensures decoded { (key : List ℕ) (base own : List Event) → IsOf world.now.subkeys key
+
+    ensures decoded { (key : List ℕ) (seed : Option (List ℕ)) (base own : List Event)
+        → IsOf world.now.subkeys key
         → Stands (R.remembered replay.old) (base ++ own) → length own ≡ entries
-        → IfOk result (λ answer. IsDecoded key world.now.settings who base own moment text.now answer.reply.items answer.entries
-        (R.remembered replay.new).floor (R.remembered replay.new).pairs) }
-    ensures given_up { (base own : List Event)
-        → Stands (R.remembered replay.old) (base ++ own)
+        → IfOk result (λ answer. IsDecoded (session_of world.now who key seed base) own moment
+        text.now answer.reply.items answer.entries (R.remembered replay.new)) }
+    ensures given_up { (base own : List Event) → Stands (R.remembered replay.old) (base ++ own)
         → OnErr result (Stands (R.remembered replay.new) (base ++ before_decode base own moment)) }
     ensures bound { IfOk result (λ answer. answer.entries ≤ entries + 2) }
-    ensures live { (history : List Event)
-        → Stands (R.remembered replay.old) history
-        → AllLive (R.remembered replay.old).floor (R.remembered replay.old).pairs
-        → AllLive (R.remembered replay.new).floor (R.remembered replay.new).pairs }
+    ensures live { AllLive (R.remembered replay.old) → AllLive (R.remembered replay.new) }
 {
     let entries = entries + purge_if_due(replay, moment);
     match prepare(alloc, world, who, moment, text)? {
-        Prepared::Refused(reply) => Ok(Answer { reply, entries }),
+        Prepared::Refused(reply) => Ok(Answer {
+            reply: reply.into_bytes(),
+            entries,
+        }),
         Prepared::Ready(ready) => {
-            let verdict = replay.admit(&ready.pair, moment)?;
-            let reply = ready.complete(verdict, entries);
+            let verdict = replay.admit(ready.pair(), moment)?;
+            let reply = complete(ready, verdict, entries);
             Ok(Answer {
-                reply,
+                reply: reply.into_bytes(),
                 entries: entries + 1,
             })
         }
@@ -60,10 +61,9 @@ pub(crate) fn decode<R: Replay>(
 /// events that are.
 fn purge_if_due<R: Replay>(replay: &mut R, moment: u32) -> u64
     ensures bound { result ≤ 1 }
-    ensures live { AllLive (R.remembered replay.old).floor (R.remembered replay.old).pairs
-        → AllLive (R.remembered replay.new).floor (R.remembered replay.new).pairs }
+    ensures live { AllLive (R.remembered replay.old) → AllLive (R.remembered replay.new) }
     ensures purged { (base own : List Event) → Stands (R.remembered replay.old) (base ++ own)
-        → IsPurged (R.remembered replay.new).floor (R.remembered replay.new).pairs base own moment result }
+        → IsPurged (R.remembered replay.new) base own moment result }
 {
     let floor = replay.floor();
     if moment < floor || moment - floor < PURGE_INTERVAL {

@@ -1,125 +1,101 @@
-//! Encode requests: what is asked, and the replies.
+//! Answering an encode request.
 
-ghost use Rattle.std.specs.Prelude.{◌≡◌, ◌+◌, ◌≤◌, ℕ, [], List, IfOk, length};
+ghost use Rattle.std.specs.Prelude.{◌≡◌, ◌≤◌, ℕ, [], List, IfOk, length};
 ghost use Rattle.subkeys.specs.Subkeys.{IsOf};
 ghost use Rattle.cred_seal.specs.Asked.{asked_of};
 ghost use Rattle.cred_seal.specs.SealedText.{text_limit};
-ghost use Rattle.session_core.specs.ClientMessage.{asked_size};
+ghost use Rattle.decode_rules.specs.Terms.{terms_of};
+ghost use Rattle.session_core.specs.AskedBy.{asked_by};
 ghost use Rattle.session_core.specs.EncodeReply.{Encodes, IsSealReply, encode_reply};
-ghost use Rattle.session_core.specs.EncodeRequest.{asked_in, number_at};
 ghost use Rattle.session_core.specs.Seed.{place_of, seed_of};
 
-use crate::World;
-use crate::request::ASKED_SIZE;
-use cred_seal::{Dice, SealRefused, SealRequest, seal};
+use cred_seal::{Dice, Drawn, SealRefused, SealRequest, seal};
+use decode_rules::World;
 use munge_types::{Identity, NoMemory, Status};
 use std::alloc::Global;
+use wire_msg::{Bytes, EncodeAsk, EncodeSaid, FrameRefused, Message, frame};
 
-/// The first three bytes of an encode reply: magic, version and kind.
-const KIND: [u8; 3] = [0x4d, 1, 2];
-
-/// Answers an encode request with this body, of at least 14 bytes, at this moment. Without dice
-/// nothing is sealed. With them, the words of one credential are drawn whatever the reply.
+/// Answers an encode request at this moment, in seconds since 1970. Without dice nothing is sealed.
+/// With them, the words of one credential are drawn whatever the reply.
 pub(crate) fn encode(
     alloc: Global,
     dice: &mut Option<Dice>,
     who: Identity,
     world: &World,
     moment: u32,
-    body: &[u8],
+    ask: &EncodeAsk,
 ) -> Result<Vec<u8>, NoMemory>
-    requires { asked_size ≤ length body.now }
-    ensures encoded { (key : List ℕ) → IsOf world.now.subkeys key → IfOk result (λ reply.
-        Encodes key world.now.settings who (seed_of dice.old) (place_of dice.old) moment (asked_in body.now) reply.items (place_of dice.new)) }
+    ensures encoded { (key : List ℕ) → IsOf world.now.subkeys key → IfOk result (λ reply. Encodes
+        (terms_of world.now who key) (seed_of dice.old) (place_of dice.old) moment
+        (asked_by ask.now) reply.items (place_of dice.new)) }
     ensures same_seed { seed_of dice.new ≡ seed_of dice.old }
 {
     match dice {
-        None => reply_with(alloc, Status::BadArgument, &[]),
+        None => reply_with(alloc, Status::BadArgument, Vec::new(alloc)),
         Some(dice) => {
             let drawn = dice.draw();
-            let reply = seal_reply(
-                alloc,
-                world,
-                who,
-                moment,
-                &asked(body),
-                drawn.salt,
-                drawn.iv,
-            )?;
+            let reply = seal_reply(alloc, world, who, moment, ask, &drawn)?;
             Ok(reply)
         }
     }
 }
 
-/// The reply to what is asked, sealed with this salt and this initial vector.
+/// The reply to what is asked, sealed with the salt and the initial vector that were drawn.
 fn seal_reply(
     alloc: Global,
     world: &World,
     who: Identity,
     moment: u32,
-    request: &SealRequest<'_>,
-    salt: [u8; 8],
-    iv: [u8; 16],
+    ask: &EncodeAsk,
+    drawn: &Drawn,
 ) -> Result<Vec<u8>, NoMemory>
-    ensures { (key : List ℕ) → IsOf world.now.subkeys key → IfOk result (λ reply.
-        IsSealReply key world.now.settings who moment (asked_of request.now) salt iv reply.items) }
+    ensures { (key : List ℕ) → IsOf world.now.subkeys key → IfOk result (λ reply. IsSealReply
+        (terms_of world.now who key) moment (asked_by ask.now) drawn.now.salt drawn.now.iv reply.items) }
 {
     match seal(
         alloc,
         &world.subkeys,
         &world.settings,
-        request,
+        &request_of(ask),
         who,
         moment,
-        salt,
-        iv,
+        drawn.salt,
+        drawn.iv,
     ) {
-        Ok(text) => reply_with(alloc, Status::Success, &text),
-        Err(SealRefused::BadCipher) => reply_with(alloc, Status::BadCipher, &[]),
-        Err(SealRefused::BadMac) => reply_with(alloc, Status::BadMac, &[]),
-        Err(SealRefused::BadLength(_)) => reply_with(alloc, Status::BadLength, &[]),
+        Ok(text) => reply_with(alloc, Status::Success, text),
+        Err(SealRefused::BadCipher) => reply_with(alloc, Status::BadCipher, Vec::new(alloc)),
+        Err(SealRefused::BadMac) => reply_with(alloc, Status::BadMac, Vec::new(alloc)),
+        Err(SealRefused::BadLength(_)) => reply_with(alloc, Status::BadLength, Vec::new(alloc)),
         Err(SealRefused::NoMemory) => Err(NoMemory),
     }
 }
 
 /// The encode reply with this status and this text.
-fn reply_with(alloc: Global, status: Status, text: &[u8]) -> Result<Vec<u8>, NoMemory>
-    requires { length text.now ≤ text_limit }
-    ensures { IfOk result (λ reply. reply.items ≡ encode_reply status text.now) }
+fn reply_with(alloc: Global, status: Status, text: Vec<u8>) -> Result<Vec<u8>, NoMemory>
+    requires { length text.items ≤ text_limit }
+    ensures { IfOk result (λ reply. reply.items ≡ encode_reply status text.items) }
 {
-    let size = 1 + text.len() as u32;
-    let mut reply = Vec::with_capacity(alloc, 8 + text.len())?;
-    reply.extend_from_slice(&KIND)?;
-    reply.extend_from_slice(&size.to_be_bytes())?;
-    reply.push(status.number())?;
-    reply.extend_from_slice(text)?;
-    Ok(reply)
-}
-
-/// What an encode request with this body asks to be sealed.
-fn asked(body: &[u8]) -> SealRequest<'_>
-    requires { asked_size ≤ length body.now }
-    ensures { asked_of result ≡ asked_in body.now }
-{
-    SealRequest {
-        cipher: body[0],
-        kind: body[1],
-        ttl: number_from(body, 2),
-        for_uid: number_from(body, 6),
-        for_gid: number_from(body, 10),
-        payload: &body[ASKED_SIZE..],
+    let said = Message::EncodeReply(EncodeSaid {
+        status: status.number(),
+        text: Bytes::of(text),
+    });
+    match frame(alloc, &said) {
+        Ok(reply) => Ok(reply),
+        Err(FrameRefused::NoMemory) => Err(NoMemory),
+        Err(FrameRefused::TooLong(_)) => unreachable!(),
     }
 }
 
-/// The big-endian number in the four bytes from this place on.
-fn number_from(body: &[u8], at: usize) -> u32
-    requires { at + 4 ≤ length body.now }
-    ensures { result ≡ number_at body.now at }
+/// What an encode request asks to be sealed.
+fn request_of(ask: &EncodeAsk) -> SealRequest<'_>
+    ensures { asked_of result ≡ asked_by ask.now }
 {
-    let mut bytes = [0; 4];
-    bytes.copy_from_slice(&body[at..at + 4]);
-    u32::from_be_bytes(bytes)
+    SealRequest {
+        cipher: ask.cipher,
+        kind: ask.kind,
+        ttl: ask.ttl,
+        for_uid: ask.for_uid,
+        for_gid: ask.for_gid,
+        payload: ask.payload.bytes(),
+    }
 }
-
-#[cfg(test)]
-mod tests;

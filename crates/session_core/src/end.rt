@@ -3,7 +3,7 @@
 /// Why a session ended.
 #[derive(Clone, Copy, Debug, PartialEq, Eq)]
 pub enum HowEnded {
-    /// The input ended between two requests.
+    /// The input ended between two requests, or a caller who has control asked to stop.
     Done,
     /// A read of the input failed.
     ReadFault,
@@ -11,7 +11,7 @@ pub enum HowEnded {
     WriteFault,
     /// The clock gave no reading.
     ClockFault,
-    /// At this byte of the input begins what is no request that can be answered.
+    /// At this byte of the input, counted from 0, begins what is no request.
     Malformed(u64),
     /// Every request that one session may make was answered, and more input came.
     Budget,

@@ -2,114 +2,46 @@
 
 ghost use Rattle.std.specs.Prelude.{
   ◌≡◌,
-  ◌≢◌,
   ◌≤◌,
-  ◌↔◌,
-  ℕ,
-  IsTrue,
+  ◌++◌,
+  [],
   IfOk,
   IfErr,
   OnOk,
-  IfSome,
-  IfNone,
+  OnErr,
   length,
-  vec_len,
 };
 ghost use Rattle.std.specs.Io.KnownBytes.{Consumes};
-ghost use Rattle.session_core.specs.ClientMessage.{
-  IsRequest,
-  body_limit,
-  body_of,
-  message,
-  message_head,
+ghost use Rattle.byte_io.specs.Counts.{Rose};
+ghost use Rattle.wire_msg.specs.Feeding.{place_after};
+ghost use Rattle.wire_msg.specs.Frame.{IsFramePrefix};
+ghost use Rattle.wire_msg.specs.Spelling.{frame_of};
+ghost use Rattle.wire_msg.specs.declared.kind.Side.TheVariants.{Requests};
+ghost use Rattle.session_core.specs.Partial.{
+  Comes,
+  HeadRefused,
+  IsNearer,
+  KeepsOf,
+  ReadsOn,
+  Stops,
+  Wants,
 };
-ghost use Rattle.session_core.specs.Reading.{ReadsNone, StopsInBody};
-ghost use Rattle.session_core.specs.RequestHead.{AllowsSize, kind_number, request_of};
-ghost use Rattle.session_core.specs.RequestTold.{request_told};
+ghost use Rattle.session_core.specs.Reading.{ReadsNone};
+ghost use Rattle.session_core.specs.Requests.{IsRequest};
+ghost use Rattle.session_core.specs.Things.{input_of};
+ghost use Rattle.session_core.specs.declared.request.Progress.TheVariants.{Whole};
 
 use byte_io::{FullRead, Source, read_full};
-use std::alloc::Global;
+use munge_types::NoMemory;
+use wire_msg::{Fed, Feeder, HEAD_SIZE, Message};
 
-/// The first byte of every message.
-const MAGIC: u8 = 0x4d;
-
-/// The second byte of every message.
-const VERSION: u8 = 1;
-
-/// The bytes of an encode request's body before its payload.
-pub(crate) const ASKED_SIZE: usize = 14;
-
-/// The most bytes of a message's body.
-const BODY_LIMIT: usize = 2_097_152;
-
-/// What a client asks for, with the body of its message as it came.
+/// How far a request came.
 #[derive(Drop)]
-pub(crate) enum Request {
-    /// To seal what the body asks for, of at least 14 bytes.
-    Encode(Vec<u8>),
-    /// To open the credential with this text.
-    Decode(Vec<u8>),
-}
-
-impl Request {
-    /// The body of its message.
-    pub(crate) fn body(&self) -> &[u8]
-        ensures { result.now ≡ body_of (request_told self.now) }
-    {
-        match self {
-            Request::Encode(body) => body.as_slice(),
-            Request::Decode(text) => text.as_slice(),
-        }
-    }
-
-    /// The request of this kind with this body.
-    fn of(kind: Kind, body: Vec<u8>) -> Request
-        ensures { request_told result ≡ request_of kind body.items }
-    {
-        match kind {
-            Kind::Encode => Request::Encode(body),
-            Kind::Decode => Request::Decode(body),
-        }
-    }
-}
-
-/// The kinds of requests.
-#[derive(Clone, Copy, Debug, PartialEq, Eq)]
-enum Kind {
-    Encode,
-    Decode,
-}
-
-impl Kind {
-    /// The kind of this number, and None where it is that of no request.
-    fn of(number: u8) -> Option<Kind>
-        ensures found { IfSome result (λ kind. number ≡ kind_number kind) }
-        ensures none { IfNone result ((kind : Kind) → number ≢ kind_number kind) }
-    {
-        match number {
-            1 => Some(Kind::Encode),
-            3 => Some(Kind::Decode),
-            _ => None,
-        }
-    }
-
-    /// Whether the body of a request of this kind may have so many bytes.
-    fn allows(self, size: usize) -> bool
-        ensures { IsTrue result ↔ AllowsSize self size }
-    {
-        match self {
-            Kind::Encode => ASKED_SIZE <= size && size <= BODY_LIMIT,
-            Kind::Decode => size <= BODY_LIMIT,
-        }
-    }
-}
-
-/// What the head of a request says.
-#[derive(Clone, Copy, Debug, PartialEq, Eq)]
-struct Head {
-    kind: Kind,
-    /// How many bytes the body has.
-    size: usize,
+enum Progress {
+    /// All of it.
+    Whole(Message),
+    /// Its head at least, and so many more bytes make all of it.
+    Partial(usize),
 }
 
 /// Why no request was read.
@@ -121,95 +53,197 @@ pub(crate) enum Unread {
     Malformed,
     /// A read failed.
     ReadFault,
-    /// No memory was left for the body.
+    /// No memory was left for the request.
     NoMemory,
 }
 
-/// Reads one encode or decode request and nothing beyond it.
-pub(crate) fn read_request<I: Source>(alloc: Global, input: &mut I) -> Result<Request, Unread>
-    ensures fits { IfOk result (λ request. IsRequest (request_told request)) }
-    ensures within { IfOk result (λ request. length (body_of (request_told request)) ≤ body_limit) }
+/// Reads one request and nothing beyond it: its head, and then what the head says, by pieces of the
+/// buffer's size.
+pub(crate) fn read_request<I: Source>(
+    input: &mut I,
+    feeder: &mut Feeder,
+    buffer: &mut [u8],
+) -> Result<Message, Unread>
+    requires side { feeder.old.side ≡ Requests }
+    requires between { feeder.old.unfinished ≡ [] }
+    requires room { 1 ≤ length buffer.old }
+
+    ensures fits { IfOk result IsRequest }
     ensures read { IfOk result (λ request.
-        Consumes (I.left input.old) (I.left input.new) (message (request_told request))) }
-    ensures none { IfErr result (λ cause. ReadsNone cause (I.left input.old) (I.left input.new)
-        (I.read_faults input.old) (I.read_faults input.new) (I.ends input.old) (I.ends input.new)) }
-    ensures sound { OnOk result (I.read_faults input.new ≡ I.read_faults input.old) }
-    ensures open { OnOk result (I.ends input.new ≡ I.ends input.old) }
-    ensures faults_stay { I.read_faults input.old ≤ I.read_faults input.new }
+        Consumes (I.left input.old) (I.left input.new) (frame_of request)) }
+    ensures place { IfOk result (λ request.
+        feeder.new.begins ≡ place_after feeder.old.begins (length (frame_of request))) }
+    ensures between { OnOk result (feeder.new.unfinished ≡ []) }
+
+    ensures none { IfErr result (λ cause. ReadsNone cause
+        (input_of (I.left input.old) (I.ends input.old))
+        (input_of (I.left input.new) (I.ends input.new))) }
+    ensures failed { result ≡ Err Unread.ReadFault
+        → Rose (I.read_faults input.old) (I.read_faults input.new) }
+    ensures sound { (result ≡ Err Unread.ReadFault → ⊥)
+        → I.read_faults input.new ≡ I.read_faults input.old }
+    ensures same_place { OnErr result (feeder.new.begins ≡ feeder.old.begins) }
+
+    ensures side { feeder.new.side ≡ feeder.old.side }
     ensures ends_stay { I.ends input.old ≤ I.ends input.new }
 {
-    let head = match read_head(input) {
-        Ok(head) => head,
-        Err(cause) => return Err(cause),
-    };
-    match read_body(alloc, input, head.size) {
-        Ok(body) => Ok(Request::of(head.kind, body)),
+    match read_head(input, feeder) {
+        Ok(Progress::Whole(request)) => Ok(request),
+        Ok(Progress::Partial(wanted)) => read_body(input, feeder, buffer, wanted),
         Err(cause) => Err(cause),
     }
 }
 
-/// Reads the head of a request.
-fn read_head<I: Source>(input: &mut I) -> Result<Head, Unread>
-    ensures allowed { IfOk result (λ head. AllowsSize head.kind head.size) }
-    ensures within { IfOk result (λ head. head.size ≤ body_limit) }
-    ensures read { IfOk result (λ head.
-        Consumes (I.left input.old) (I.left input.new) (message_head (kind_number head.kind) head.size)) }
-    ensures none { IfErr result (λ cause. ReadsNone cause (I.left input.old) (I.left input.new)
-        (I.read_faults input.old) (I.read_faults input.new) (I.ends input.old) (I.ends input.new)) }
-    ensures sound { OnOk result (I.read_faults input.new ≡ I.read_faults input.old) }
-    ensures open { OnOk result (I.ends input.new ≡ I.ends input.old) }
-    ensures faults_stay { I.read_faults input.old ≤ I.read_faults input.new }
+/// Reads the head of a request, which is all of it where its body is empty.
+fn read_head<I: Source>(input: &mut I, feeder: &mut Feeder) -> Result<Progress, Unread>
+    requires side { feeder.old.side ≡ Requests }
+    requires between { feeder.old.unfinished ≡ [] }
+
+    ensures read { IfOk result (λ progress. ReadsOn feeder.old
+        (input_of (I.left input.old) (I.ends input.old))
+        (input_of (I.left input.new) (I.ends input.new))
+        progress feeder.new) }
+
+    ensures none { IfErr result (λ cause. ReadsNone cause
+        (input_of (I.left input.old) (I.ends input.old))
+        (input_of (I.left input.new) (I.ends input.new))) }
+    ensures failed { result ≡ Err Unread.ReadFault
+        → Rose (I.read_faults input.old) (I.read_faults input.new) }
+    ensures sound { (result ≡ Err Unread.ReadFault → ⊥)
+        → I.read_faults input.new ≡ I.read_faults input.old }
+    ensures same_place { OnErr result (feeder.new.begins ≡ feeder.old.begins) }
+
+    ensures side { feeder.new.side ≡ Requests }
     ensures ends_stay { I.ends input.old ≤ I.ends input.new }
 {
-    let mut bytes = [0; 7];
-    match read_full(input, &mut bytes) {
-        FullRead::Full => match head_of(&bytes) {
-            Some(head) => Ok(head),
-            None => Err(Unread::Malformed),
-        },
+    let mut head = [0; HEAD_SIZE];
+    match read_full(input, &mut head) {
+        FullRead::Full => take_head(feeder, &head),
         FullRead::Short(0) => Err(Unread::Ended),
         FullRead::Short(_) => Err(Unread::Malformed),
         FullRead::Failed(_) => Err(Unread::ReadFault),
     }
 }
 
-/// The head of a request that has these bytes.
-fn head_of(bytes: &[u8; 7]) -> Option<Head>
-    ensures allowed { IfSome result (λ head. AllowsSize head.kind head.size) }
-    ensures within { IfSome result (λ head. head.size ≤ body_limit) }
-    ensures head { IfSome result (λ head. bytes.now ≡ message_head (kind_number head.kind) head.size) }
-    ensures none { IfNone result ((kind : Kind) (size : ℕ) → AllowsSize kind size
-        → bytes.now ≢ message_head (kind_number kind) size) }
+/// How far a request comes by its head.
+fn take_head(feeder: &mut Feeder, head: &[u8; HEAD_SIZE]) -> Result<Progress, Unread>
+    requires side { feeder.old.side ≡ Requests }
+    requires between { feeder.old.unfinished ≡ [] }
+
+    ensures comes { IfOk result (Comes head.now) }
+    ensures keeps { IfOk result (λ progress.
+        KeepsOf feeder.old.begins head.now progress feeder.new) }
+    ensures refused { IfErr result (λ cause. HeadRefused cause head.now) }
+    ensures same_place { OnErr result (feeder.new.begins ≡ feeder.old.begins) }
+    ensures side { feeder.new.side ≡ Requests }
 {
-    if bytes[0] != MAGIC || bytes[1] != VERSION {
-        return None;
+    match feeder.feed(head) {
+        Ok(Fed::Message { message, .. }) => Ok(Progress::Whole(message)),
+        Ok(Fed::More) => Ok(Progress::Partial(feeder.wanted())),
+        Ok(Fed::Bad(_)) => Err(Unread::Malformed),
+        Err(NoMemory) => Err(Unread::NoMemory),
     }
-    let kind = Kind::of(bytes[2])?;
-    let size = u32::from_be_bytes([bytes[3], bytes[4], bytes[5], bytes[6]]) as usize;
-    if !kind.allows(size) {
-        return None;
-    }
-    Some(Head { kind, size })
 }
 
-/// Reads a body of this size.
-fn read_body<I: Source>(alloc: Global, input: &mut I, size: usize) -> Result<Vec<u8>, Unread>
-    requires { size ≤ body_limit }
-    ensures size { IfOk result (λ body. vec_len body ≡ size) }
-    ensures read { IfOk result (λ body. Consumes (I.left input.old) (I.left input.new) body.items) }
-    ensures none { IfErr result (λ cause. StopsInBody cause size (I.left input.old) (I.left input.new)
-        (I.read_faults input.old) (I.read_faults input.new) (I.ends input.old) (I.ends input.new)) }
-    ensures sound { OnOk result (I.read_faults input.new ≡ I.read_faults input.old) }
-    ensures open { OnOk result (I.ends input.new ≡ I.ends input.old) }
-    ensures faults_stay { I.read_faults input.old ≤ I.read_faults input.new }
+/// Reads the rest of a request, of which so many bytes are wanted.
+fn read_body<I: Source>(
+    input: &mut I,
+    feeder: &mut Feeder,
+    buffer: &mut [u8],
+    mut wanted: usize,
+) -> Result<Message, Unread>
+    requires side { feeder.old.side ≡ Requests }
+    requires room { 1 ≤ length buffer.old }
+    requires wants { Wants feeder.old.unfinished wanted }
+
+    ensures read { IfOk result (λ request. ReadsOn feeder.old
+        (input_of (I.left input.old) (I.ends input.old))
+        (input_of (I.left input.new) (I.ends input.new))
+        (Whole request) feeder.new) }
+
+    ensures none { IfErr result (λ cause. Stops cause feeder.old.unfinished
+        (input_of (I.left input.old) (I.ends input.old))
+        (input_of (I.left input.new) (I.ends input.new))) }
+    ensures failed { result ≡ Err Unread.ReadFault
+        → Rose (I.read_faults input.old) (I.read_faults input.new) }
+    ensures sound { (result ≡ Err Unread.ReadFault → ⊥)
+        → I.read_faults input.new ≡ I.read_faults input.old }
+    ensures same_place { OnErr result (feeder.new.begins ≡ feeder.old.begins) }
+
+    ensures side { feeder.new.side ≡ Requests }
     ensures ends_stay { I.ends input.old ≤ I.ends input.new }
 {
-    let Ok(mut body) = vec![in alloc; 0u8; size] else {
-        return Err(Unread::NoMemory);
-    };
-    match read_full(input, &mut body) {
-        FullRead::Full => Ok(body),
+    'pieces: loop {
+        match read_piece(input, feeder, buffer, wanted) {
+            Ok(Progress::Whole(request)) => return Ok(request),
+            Ok(Progress::Partial(less)) => wanted = less,
+            Err(cause) => return Err(cause),
+        }
+    }
+}
+
+/// Reads a piece of a request, of which so many bytes are wanted: all of them if the buffer has
+/// room.
+fn read_piece<I: Source>(
+    input: &mut I,
+    feeder: &mut Feeder,
+    buffer: &mut [u8],
+    wanted: usize,
+) -> Result<Progress, Unread>
+    requires side { feeder.old.side ≡ Requests }
+    requires room { 1 ≤ length buffer.old }
+    requires wants { Wants feeder.old.unfinished wanted }
+
+    ensures read { IfOk result (λ progress. ReadsOn feeder.old
+        (input_of (I.left input.old) (I.ends input.old))
+        (input_of (I.left input.new) (I.ends input.new))
+        progress feeder.new) }
+    ensures nearer { IfOk result (IsNearer wanted) }
+
+    ensures none { IfErr result (λ cause. Stops cause feeder.old.unfinished
+        (input_of (I.left input.old) (I.ends input.old))
+        (input_of (I.left input.new) (I.ends input.new))) }
+    ensures failed { result ≡ Err Unread.ReadFault
+        → Rose (I.read_faults input.old) (I.read_faults input.new) }
+    ensures sound { (result ≡ Err Unread.ReadFault → ⊥)
+        → I.read_faults input.new ≡ I.read_faults input.old }
+    ensures same_place { OnErr result (feeder.new.begins ≡ feeder.old.begins) }
+
+    ensures side { feeder.new.side ≡ Requests }
+    ensures ends_stay { I.ends input.old ≤ I.ends input.new }
+{
+    let size = wanted.min(buffer.len());
+    let piece = &mut buffer[..size];
+    match read_full(input, piece) {
+        FullRead::Full => match take_piece(feeder, piece, wanted) {
+            Ok(progress) => Ok(progress),
+            Err(NoMemory) => Err(Unread::NoMemory),
+        },
         FullRead::Short(_) => Err(Unread::Malformed),
         FullRead::Failed(_) => Err(Unread::ReadFault),
+    }
+}
+
+/// How far a request comes by a piece, where so many bytes were wanted.
+fn take_piece(feeder: &mut Feeder, piece: &[u8], wanted: usize) -> Result<Progress, NoMemory>
+    requires side { feeder.old.side ≡ Requests }
+    requires wants { Wants feeder.old.unfinished wanted }
+    requires some { 1 ≤ length piece.now }
+    requires within { length piece.now ≤ wanted }
+
+    ensures comes { IfOk result (Comes (feeder.old.unfinished ++ piece.now)) }
+    ensures keeps { IfOk result (λ progress.
+        KeepsOf feeder.old.begins (feeder.old.unfinished ++ piece.now) progress feeder.new) }
+    ensures nearer { IfOk result (IsNearer wanted) }
+    ensures wants_memory { OnErr result
+        (IsFramePrefix Requests (feeder.old.unfinished ++ piece.now)) }
+    ensures same_place { OnErr result (feeder.new.begins ≡ feeder.old.begins) }
+    ensures side { feeder.new.side ≡ Requests }
+{
+    match feeder.feed(piece) {
+        Ok(Fed::Message { message, .. }) => Ok(Progress::Whole(message)),
+        Ok(Fed::More) => Ok(Progress::Partial(wanted - piece.len())),
+        Ok(Fed::Bad(_)) => unreachable!(),
+        Err(NoMemory) => Err(NoMemory),
     }
 }

@@ -1,98 +1,145 @@
 //! One request of a session: reading it, answering it, and writing the reply.
 
-ghost use Rattle.std.specs.Prelude.{◌≡◌, ◌≢◌, ℕ, ◌+◌, ◌<◌, ◌≤◌, ◌^◌, ◌++◌, List, length, MatchResult, IfOk};
+ghost use Rattle.std.specs.Prelude.{
+  ◌≡◌,
+  ◌≢◌,
+  ℕ,
+  ◌+◌,
+  ◌<◌,
+  ◌≤◌,
+  ◌^◌,
+  ◌++◌,
+  [],
+  List,
+  length,
+  IfOk,
+  IfErr,
+  OnOk,
+};
 ghost use Rattle.byte_io.specs.Counts.{Rose};
 ghost use Rattle.munge_types.specs.StandsFor.{Stands};
 ghost use Rattle.munge_types.specs.declared.history.Event.{Event};
 ghost use Rattle.subkeys.specs.Subkeys.{IsOf};
+ghost use Rattle.wire_msg.specs.declared.kind.Side.TheVariants.{Requests};
 ghost use Rattle.session_core.specs.AllLive.{AllLive};
-ghost use Rattle.session_core.specs.Reading.{CameToEnd, how_of};
+ghost use Rattle.session_core.specs.Answering.{Own, is_last};
+ghost use Rattle.session_core.specs.Reading.{how_of};
 ghost use Rattle.session_core.specs.Seed.{place_of, seed_of};
-ghost use Rattle.session_core.specs.SessionRun.{Own};
-ghost use Rattle.session_core.specs.Turn.{Answered, Ended};
+ghost use Rattle.session_core.specs.Session.{session_of};
+ghost use Rattle.session_core.specs.Things.{input_of, outside_of, things_of};
+ghost use Rattle.session_core.specs.Turn.{HasEnded, IsAt, IsTurned, stage_of};
 
-use crate::answer::make_answer;
+use crate::HowEnded;
+use crate::answer::{Unanswered, make_answer};
 use crate::request::{Unread, read_request};
-use crate::{HowEnded, World};
 use byte_io::{AllWritten, Clock, Sink, Source, write_all};
 use cred_seal::Dice;
+use decode_rules::World;
 use munge_types::{Identity, Replay};
 use std::alloc::Global;
+use wire_msg::{Feeder, Message};
 
-/// The bytes of a request before its body.
-const HEAD: u64 = 7;
-
-/// Where a session stands between two requests.
+/// A request that was answered.
 #[derive(Clone, Copy, Debug, PartialEq, Eq)]
-pub(crate) struct Position {
-    /// At which byte of the input the next request begins.
-    pub(crate) begins: u64,
+pub(crate) struct Turned {
     /// How many events the session has made.
     pub(crate) entries: u64,
+    /// The session is over: it was stopped.
+    pub(crate) over: bool,
 }
 
-/// Reads the next request and answers it. An `Err` says how the session ends.
+/// Reads the next request and answers it, after so many events of the session's own. An `Err` says
+/// how the session ends.
 pub(crate) fn take_turn<I: Source, O: Sink, C: Clock, R: Replay>(
     alloc: Global,
     input: &mut I,
+    feeder: &mut Feeder,
+    buffer: &mut [u8],
     out: &mut O,
     clock: &mut C,
     replay: &mut R,
     dice: &mut Option<Dice>,
     who: Identity,
     world: &World,
-    at: Position,
-) -> Result<Position, HowEnded>
-    requires far_from_end { at.begins + 2097159 < 2 ^ 64 }
-    requires few_entries { at.entries + 2 < 2 ^ 64 }
+    entries: u64,
+) -> Result<Turned, HowEnded>
+    requires side { feeder.old.side ≡ Requests }
+    requires between { feeder.old.unfinished ≡ [] }
+    requires far_from_end { feeder.old.begins + 2097159 < 2 ^ 64 }
+    requires room { 1 ≤ length buffer.old }
+    requires few_entries { entries + 2 < 2 ^ 64 }
 
     ensures turned { (key : List ℕ) (base : List Event) (own : Own) → IsOf world.now.subkeys key
         → Stands (R.remembered replay.old) (base ++ own.events)
-        → length own.events ≡ at.entries → own.place ≡ place_of dice.old
-        → MatchResult result
-        (Answered key world.now.settings who (seed_of dice.old) base own
-        (record { left = I.left input.old; taken = O.taken out.old; readings = C.readings clock.old; floor = (R.remembered replay.old).floor; kept = (R.remembered replay.old).pairs })
-        (record { left = I.left input.new; taken = O.taken out.new; readings = C.readings clock.new; floor = (R.remembered replay.new).floor; kept = (R.remembered replay.new).pairs })
-        at (place_of dice.new))
-        (Ended key world.now.settings who (seed_of dice.old) base own
-        (record { left = I.left input.old; taken = O.taken out.old; readings = C.readings clock.old; floor = (R.remembered replay.old).floor; kept = (R.remembered replay.old).pairs })
-        (record { left = I.left input.new; taken = O.taken out.new; readings = C.readings clock.new; floor = (R.remembered replay.new).floor; kept = (R.remembered replay.new).pairs })
-        at.begins (CameToEnd (I.ends input.old) (I.ends input.new) (I.left input.new))) }
-    ensures same_seed { seed_of dice.new ≡ seed_of dice.old }
-    ensures begins_bound { IfOk result (λ next. next.begins ≤ at.begins + 2097159) }
-    ensures entries_bound { IfOk result (λ next. next.entries ≤ at.entries + 2) }
+        → IsAt own (stage_of entries (place_of dice.old))
+        → let before = outside_of (input_of (I.left input.old) (I.ends input.old))
+        (O.taken out.old) (C.readings clock.old) in
+        let after = outside_of (input_of (I.left input.new) (I.ends input.new))
+        (O.taken out.new) (C.readings clock.new) in
+        IfOk result (λ turned. IsTurned (session_of world.now who key (seed_of dice.old) base) own
+        (things_of before (R.remembered replay.old)) (things_of after (R.remembered replay.new))
+        feeder.old.begins feeder.new.begins turned.over
+        (stage_of turned.entries (place_of dice.new))) }
+    ensures ended { (key : List ℕ) (base : List Event) (own : Own) → IsOf world.now.subkeys key
+        → Stands (R.remembered replay.old) (base ++ own.events)
+        → IsAt own (stage_of entries (place_of dice.old))
+        → let before = outside_of (input_of (I.left input.old) (I.ends input.old))
+        (O.taken out.old) (C.readings clock.old) in
+        let after = outside_of (input_of (I.left input.new) (I.ends input.new))
+        (O.taken out.new) (C.readings clock.new) in
+        IfErr result (HasEnded (session_of world.now who key (seed_of dice.old) base) own
+        (things_of before (R.remembered replay.old)) (things_of after (R.remembered replay.new))
+        feeder.old.begins) }
 
-    ensures read_fault { result ≡ Err HowEnded.ReadFault → Rose (I.read_faults input.old) (I.read_faults input.new) }
-    ensures write_fault { result ≡ Err HowEnded.WriteFault → Rose (O.write_faults out.old) (O.write_faults out.new) }
-    ensures clock_fault { result ≡ Err HowEnded.ClockFault → Rose (C.clock_faults clock.old) (C.clock_faults clock.new) }
-    ensures reads_sound { result ≢ Err HowEnded.ReadFault → I.read_faults input.new ≡ I.read_faults input.old }
-    ensures writes_sound { result ≢ Err HowEnded.WriteFault → O.write_faults out.new ≡ O.write_faults out.old }
-    ensures clock_sound { result ≢ Err HowEnded.ClockFault → C.clock_faults clock.new ≡ C.clock_faults clock.old }
+    ensures side { feeder.new.side ≡ feeder.old.side }
+    ensures between { OnOk result (feeder.new.unfinished ≡ []) }
+    ensures begins_bound { OnOk result (feeder.new.begins ≤ feeder.old.begins + 2097159) }
+    ensures same_seed { seed_of dice.new ≡ seed_of dice.old }
+    ensures entries_bound { IfOk result (λ turned. turned.entries ≤ entries + 2) }
+
+    ensures read_fault { result ≡ Err HowEnded.ReadFault
+        → Rose (I.read_faults input.old) (I.read_faults input.new) }
+    ensures reads_sound { result ≢ Err HowEnded.ReadFault
+        → I.read_faults input.new ≡ I.read_faults input.old }
+    ensures write_fault { result ≡ Err HowEnded.WriteFault
+        → Rose (O.write_faults out.old) (O.write_faults out.new) }
+    ensures writes_sound { result ≢ Err HowEnded.WriteFault
+        → O.write_faults out.new ≡ O.write_faults out.old }
+    ensures clock_fault { result ≡ Err HowEnded.ClockFault
+        → Rose (C.clock_faults clock.old) (C.clock_faults clock.new) }
+    ensures clock_sound { result ≢ Err HowEnded.ClockFault
+        → C.clock_faults clock.new ≡ C.clock_faults clock.old }
     ensures ends_stay { I.ends input.old ≤ I.ends input.new }
 
-    ensures live { (history : List Event)
-        → Stands (R.remembered replay.old) history
-        → AllLive (R.remembered replay.old).floor (R.remembered replay.old).pairs
-        → AllLive (R.remembered replay.new).floor (R.remembered replay.new).pairs }
+    ensures live { AllLive (R.remembered replay.old) → AllLive (R.remembered replay.new) }
 {
-    let request = match read_request(alloc, input) {
+    let request = match read_request(input, feeder, buffer) {
         Ok(request) => request,
-        Err(cause) => return Err(ended_by(cause, at.begins)),
+        Err(cause) => return Err(ended_by(cause, feeder.place())),
     };
-    let Ok(moment) = clock.now() else {
-        return Err(HowEnded::ClockFault);
-    };
-    let Ok(answer) = make_answer(
-        alloc, replay, dice, who, world, moment, &request, at.entries,
-    ) else {
-        return Err(HowEnded::NoMemory);
+    let over = stops(who, &request);
+    let answer = match make_answer(alloc, clock, replay, dice, who, world, &request, entries) {
+        Ok(answer) => answer,
+        Err(Unanswered::ClockFault) => return Err(HowEnded::ClockFault),
+        Err(Unanswered::NoMemory) => return Err(HowEnded::NoMemory),
     };
     match write_all(out, &answer.reply) {
-        AllWritten::All => Ok(Position {
-            begins: at.begins + HEAD + request.body().len() as u64,
+        AllWritten::All => Ok(Turned {
             entries: answer.entries,
+            over,
         }),
         AllWritten::Failed(_) => Err(HowEnded::WriteFault),
+    }
+}
+
+/// Whether the session is over once this request is answered.
+fn stops(who: Identity, request: &Message) -> bool
+    ensures { result ≡ is_last who request.now }
+{
+    match request {
+        Message::Stop => who.control,
+        Message::EncodeRequest(_) | Message::DecodeRequest(_) => false,
+        Message::EncodeReply(_) | Message::DecodeReply(_) | Message::Bye(_) => false,
     }
 }
 

@@ -8,31 +8,60 @@ const REPLY: &[u8] = b"\x4d\x01\x04\x00\x00\x00\x0a\x08\x01\xff\xff\xff\xff\xff\
 
 #[test]
 fn input_that_is_no_request(rt: HostRuntime) -> Result<(), Fail> {
-    let table: [(&[u8], usize, u8); 11] = [
-        (b"", 0, 0),
-        (b"\x4d\x01\x03\x00\x00\x00\x00", 1, 0),
-        (b"\x4d\x01\x03\x00\x00\x00\x00\x4d\x01\x03\x00\x00", 1, 9),
-        (b"\x4d\x01\x03\x00\x00\x00\x02\x41", 0, 9),
-        (b"\x4e\x01\x03\x00\x00\x00\x00", 0, 9),
-        (b"\x4d\x02\x03\x00\x00\x00\x00", 0, 9),
-        (b"\x4d\x01\x05\x00\x00\x00\x00", 0, 9),
-        (b"\x4d\x01\x03\x00\x20\x00\x01", 0, 9),
-        (b"\x4d\x01\x01\x00\x20\x00\x01", 0, 9),
+    // The input, how many empty texts in front of it are answered, and where it is no request.
+    let table: [(&[u8], usize, Option<&str>); 10] = [
+        (b"", 0, None),
+        (b"\x4d\x01\x03\x00\x00\x00\x00", 1, None),
+        (
+            b"\x4d\x01\x03\x00\x00\x00\x00\x4d\x01\x03\x00\x00",
+            1,
+            Some("7"),
+        ),
+        (b"\x4d\x01\x03\x00\x00\x00\x02\x41", 0, Some("0")),
+        (b"\x4e\x01\x03\x00\x00\x00\x00", 0, Some("0")),
+        (b"\x4d\x02\x03\x00\x00\x00\x00", 0, Some("0")),
+        (b"\x4d\x01\x03\x00\x20\x00\x01", 0, Some("0")),
+        (b"\x4d\x01\x01\x00\x20\x00\x01", 0, Some("0")),
         (
             b"\x4d\x01\x01\x00\x00\x00\x0d\x00\x05\x00\x00\x00\x00\xff\xff\xff\xff\xff\xff\xff",
             0,
-            9,
+            Some("0"),
         ),
-        (b"\x4d\x01\x02\x00\x00\x00\x01\x00", 0, 9),
+        (b"\x4d\x01\x02\x00\x00\x00\x01\x00", 0, Some("0")),
     ];
-    for (input, replies, status) in table {
+    for (input, replies, malformed) in table {
         let mut run = Run::new(rt.alloc())?;
         run.readings = vec![in rt.alloc(); 1000, 1000]?;
         run.input.extend_from_slice(input)?;
         for _ in 0..replies {
             run.output.extend_from_slice(REPLY)?;
         }
-        run.assert_ends(&rt, status, "an input")?;
+        match malformed {
+            Some(place) => {
+                run.said.push_str("malformed frame at ")?;
+                run.said.push_str(place)?;
+                run.assert_ends(&rt, 9, "an input")?;
+            }
+            None => run.assert_ends(&rt, 0, "an input")?,
+        }
+    }
+    Ok(())
+}
+
+#[test]
+fn requests_to_stop(rt: HostRuntime) -> Result<(), Fail> {
+    // A caller without control goes on; and so many requests are answered at most.
+    for (requests, status) in [(1, 0), (1_048_576, 0), (1_048_577, 11)] {
+        let mut run = Run::new(rt.alloc())?;
+        for _ in 0..requests {
+            run.input
+                .extend_from_slice(b"\x4d\x01\x05\x00\x00\x00\x00")?;
+        }
+        for _ in 0..requests.min(1_048_576) {
+            run.output
+                .extend_from_slice(b"\x4d\x01\x06\x00\x00\x00\x01\x12")?;
+        }
+        run.assert_ends(&rt, status, "requests to stop")?;
     }
     Ok(())
 }

@@ -34,6 +34,8 @@ pub(super) struct Run {
     /// The number of the read of a file that fails, or 0.
     pub(super) failing_file: u32,
     pub(super) output: Vec<u8>,
+    /// What the line on the error stream says where the status alone does not tell it.
+    pub(super) said: String,
 }
 
 impl Run {
@@ -50,6 +52,7 @@ impl Run {
             failing_write: 0,
             failing_file: 0,
             output: Vec::new(alloc),
+            said: String::new(alloc),
         })
     }
 
@@ -98,7 +101,7 @@ impl Run {
         self.output.extend_from_slice(content)
     }
 
-    /// Makes the run, and asserts its status and what it wrote; nothing goes to its error stream.
+    /// Makes the run, and asserts its status, what it wrote, and the line on its error stream.
     pub(super) fn assert_ends(
         &self,
         rt: &impl Abort,
@@ -126,8 +129,27 @@ impl Run {
         );
         assert_eq!(rt; ended, status, "the status of {row}");
         assert_eq!(rt; out.taken(), self.output.as_slice(), "what {row} wrote");
-        assert!(rt; err.taken().is_empty(), "the errors of {row}");
+        let line = self.line(status)?;
+        assert_eq!(rt; err.taken(), line.as_bytes(), "the line of {row}");
         Ok(())
+    }
+
+    /// The line on the error stream of a run that ends with this status.
+    fn line(&self, status: u8) -> Result<String, AllocError> {
+        let said = match status {
+            0 => return String::from_str(self.alloc, ""),
+            1 => "bad words",
+            5 => "input failed",
+            6 => "output failed",
+            7 => "clock failed",
+            10 => "no memory",
+            11 => "1048576 requests answered",
+            _ => self.said.as_str(),
+        };
+        let mut line = String::from_str(self.alloc, "munged: ")?;
+        line.push_str(said)?;
+        line.push_str("\n")?;
+        Ok(line)
     }
 }
 

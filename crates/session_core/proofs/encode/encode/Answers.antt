@@ -5,5 +5,5 @@ use Rattle.session_core.proofs.encode.encode.Goals as goal
 
 pub returns-in_ok-reply-in-Some-clause-encoded : goal.returns-in_ok-reply-in-Some-clause-encoded
 returns-in_ok-reply-in-Some-clause-encoded c = λ key is.
-    encodes_drawn key _ _ _ _ c.in-Some.dice _ _ _ _ _ c.in-Some.is (ap Some c.draw-drawn.ensures.goes_on)
-    c.draw-drawn.ensures.salt c.draw-drawn.ensures.vector (rw c.asked.ensures at (c.in_ok-reply-in-Some.ensures key is))
+    encodes_drawn _ _ _ c.in-Some.dice _ _ _ _ _ c.in-Some.is (ap Some c.draw-drawn.ensures.goes_on)
+    c.draw-drawn.ensures.salt c.draw-drawn.ensures.vector (c.in_ok-reply-in-Some.ensures key is)

@@ -1,0 +1,119 @@
+//! What a text comes to before the history is asked.
+
+ghost use Rattle.std.specs.Prelude.{◌≡◌, ℕ, List, IfOk};
+ghost use Rattle.subkeys.specs.Subkeys.{IsOf};
+ghost use Rattle.cred_inner.specs.Inner.{content_of};
+ghost use Rattle.cred_open.specs.OpeningRules.{first_broken};
+ghost use Rattle.decode_rules.specs.CallerRules.{caller_rules};
+ghost use Rattle.decode_rules.specs.DecodeReply.{refused_answer};
+ghost use Rattle.decode_rules.specs.Finding.{shown_by};
+ghost use Rattle.decode_rules.specs.Prepared.{IsJudged, IsPrepared, line_of};
+ghost use Rattle.decode_rules.specs.Terms.{terms_of};
+
+use crate::reply::{refusal, showing, unsaid};
+use crate::{Ready, Reply, World};
+use cred_inner::Inner;
+use cred_open::{OpenRefused, Opened, OuterRefused, open_text};
+use munge_types::{Identity, NoMemory, Rule, Status};
+use std::alloc::Global;
+
+/// The UID and the GID of a credential that anyone may open.
+const ANY: u32 = u32::MAX;
+
+/// What the decode rules 1 to 12 make of a text.
+#[derive(Debug, Drop)]
+pub enum Prepared {
+    /// One is broken, and this is the reply by the first.
+    Refused(Reply),
+    /// None is broken, and the history is to be asked about this credential.
+    Ready(Ready),
+}
+
+/// Reads a text by the decode rules 1 to 12, for this caller at this moment, in seconds since 1970.
+/// It waits for nothing, and asks no history. After `Ready` the reply takes no more memory.
+pub fn prepare(
+    alloc: Global,
+    world: &World,
+    who: Identity,
+    moment: u32,
+    text: &[u8],
+) -> Result<Prepared, NoMemory>
+    // For each key that the subkeys are of.
+    ensures { (key : List ℕ) → IsOf world.now.subkeys key
+        → IfOk result (IsPrepared (terms_of world.now who key) moment text.now) }
+{
+    match open_text(alloc, &world.subkeys, text) {
+        Ok(opened) => {
+            let prepared = judge(alloc, world, who, moment, &opened)?;
+            Ok(prepared)
+        }
+        Err(OpenRefused::Failed(broken)) => {
+            let reply = refusal(alloc, broken)?;
+            Ok(Prepared::Refused(reply))
+        }
+        Err(OpenRefused::NoMemory) => Err(NoMemory),
+    }
+}
+
+/// Goes on with a credential that breaks none of the rules 1 to 9.
+fn judge(
+    alloc: Global,
+    world: &World,
+    who: Identity,
+    moment: u32,
+    opened: &Opened,
+) -> Result<Prepared, NoMemory>
+    ensures { (key : List ℕ)
+        → IfOk result (IsJudged (terms_of world.now who key) moment opened.now) }
+{
+    match broken_rule(world, who, moment, &opened.inner()) {
+        None => {
+            let frame = unsaid(alloc, opened)?;
+            let pair = opened.pair(world.settings.max_ttl);
+            Ok(Prepared::Ready(Ready { pair, frame }))
+        }
+        Some(broken) => {
+            let reply = barred(alloc, broken, opened)?;
+            Ok(Prepared::Refused(reply))
+        }
+    }
+}
+
+/// The reply to a credential that breaks this rule. It shows the credential where the rule is that
+/// on its time.
+fn barred(alloc: Global, broken: OuterRefused, opened: &Opened) -> Result<Reply, NoMemory>
+    ensures { IfOk result (λ reply.
+        reply ≡ refused_answer broken.rule broken.status (shown_by broken.rule opened.now)) }
+{
+    if broken.rule == Rule::TIME {
+        showing(alloc, broken, opened)
+    } else {
+        refusal(alloc, broken)
+    }
+}
+
+/// The first of the rules 10 to 12 that the credential breaks.
+fn broken_rule(world: &World, who: Identity, moment: u32, inner: &Inner<'_>) -> Option<OuterRefused>
+    ensures { (key : List ℕ) → line_of result
+        ≡ first_broken (caller_rules (terms_of world.now who key) moment (content_of inner.now)) }
+{
+    if inner.for_uid != ANY && inner.for_uid != who.uid {
+        return Some(OuterRefused {
+            rule: Rule::UID,
+            status: Status::Unauthorized,
+        });
+    }
+    if inner.for_gid != ANY && inner.for_gid != who.gid {
+        return Some(OuterRefused {
+            rule: Rule::GID,
+            status: Status::Unauthorized,
+        });
+    }
+    if u64::from(inner.time) > u64::from(moment) + u64::from(world.settings.skew) {
+        return Some(OuterRefused {
+            rule: Rule::TIME,
+            status: Status::Rewound,
+        });
+    }
+    None
+}

@@ -1,0 +1,108 @@
+//! Worked texts. The credential comes from the option `--credential` of the repository's script of
+//! vectors, for a key file and a seed of 32 zeros and the caller 7, 7; frames were written out by
+//! hand from the layout of the messages.
+
+use crate::{Prepared, Reply, World, complete, prepare};
+use munge_types::{Identity, Settings, Status, Verdict};
+use std::alloc::Global;
+use std::process::Abort;
+use std::test::Fail;
+use subkeys::Subkeys;
+
+/// `hello` sealed at 1000 with AES-128 and SHA-256, for anyone: the fields are
+/// `cipher=4 mac=5 payload=hello`.
+const SEALED: &[u8] =
+    b"MUNGE:AwQFAADlal1AKL2GU7gZ0r0a7Y2gZdOW0dtIZnPPrjS6h3x2aomh8ZNQVH6NmOcaPRwS8mjed530PxWTNeODkFayJ+4ddvj+VTK0PF2qdcCP1XSD2VKm4Mz/XqmVx2UOiIvzOCA=:";
+
+/// What a decode reply shows of it.
+const SHOWN: &[u8] =
+    b"\x04\x05\x00\x00\x00\x00\x00\x00\x03\xe8\x00\x00\x01\x2c\x00\x00\x00\x07\x00\x00\x00\x07\xff\xff\xff\xff\xff\xff\xff\xffhello";
+
+/// The caller who sealed it.
+const WHO: Identity = Identity {
+    uid: 7,
+    gid: 7,
+    control: false,
+};
+
+fn usual_world() -> Result<World, Fail> {
+    Ok(World {
+        subkeys: Subkeys::of(&[0; 32])?,
+        settings: Settings::usual(),
+    })
+}
+
+/// The reply says this, in a frame with this head, this place and this content.
+fn assert_says(
+    rt: &impl Abort,
+    alloc: Global,
+    reply: &Reply,
+    said: (Status, u8),
+    size: u8,
+    place: [u8; 8],
+    content: &[u8],
+) -> Result<(), Fail> {
+    let mut frame = Vec::from_slice(alloc, b"\x4d\x01\x04\x00\x00\x00")?;
+    frame.extend_from_slice(&[size, said.0.number(), said.1])?;
+    frame.extend_from_slice(&place)?;
+    frame.extend_from_slice(content)?;
+    assert_eq!(rt; reply.status(), said.0, "the status");
+    assert_eq!(rt; reply.rule(), said.1, "the rule");
+    assert_eq!(rt; reply.bytes(), frame.as_slice(), "the frame");
+    Ok(())
+}
+
+#[test]
+fn texts_that_are_refused(rt: HostRuntime) -> Result<(), Fail> {
+    let world = usual_world()?;
+    let table: [(&[u8], u32, Status, u8, &[u8]); 4] = [
+        (b"", 1000, Status::BadCredential, 1, b""),
+        (b"MUNGE:AwQFAAE=:", 1000, Status::BadRealm, 6, b""),
+        (&SEALED[1..], 1000, Status::BadCredential, 1, b""),
+        (SEALED, 699, Status::Rewound, 12, SHOWN),
+    ];
+    for (text, moment, status, rule, content) in table {
+        let Prepared::Refused(reply) = prepare(rt.alloc(), &world, WHO, moment, text)? else {
+            panic!(rt; "the text comes to something else");
+        };
+        let size = 10 + content.len() as u8;
+        assert_says(
+            &rt,
+            rt.alloc(),
+            &reply,
+            (status, rule),
+            size,
+            [255; 8],
+            content,
+        )?;
+    }
+    Ok(())
+}
+
+#[test]
+fn text_by_each_verdict(rt: HostRuntime) -> Result<(), Fail> {
+    let world = usual_world()?;
+    for (verdict, status, rule) in [
+        (Verdict::Accepted, Status::Success, 0),
+        (Verdict::Expired, Status::Expired, 13),
+        (Verdict::Replayed, Status::Replayed, 14),
+    ] {
+        let Prepared::Ready(ready) = prepare(rt.alloc(), &world, WHO, 700, SEALED)? else {
+            panic!(rt; "the text comes to something else");
+        };
+        assert_eq!(rt; ready.pair().expiry, 1300, "the expiry");
+        let reply = complete(ready, verdict, 258);
+        let place = [0, 0, 0, 0, 0, 0, 1, 2];
+        assert_says(&rt, rt.alloc(), &reply, (status, rule), 45, place, SHOWN)?;
+    }
+    Ok(())
+}
+
+/// What a value has to be to be handed to threads and shared by them.
+fn crosses_threads<T: Send + Sync>(_: &T) {}
+
+#[test]
+fn world_crosses_threads(_rt: HostRuntime) -> Result<(), Fail> {
+    crosses_threads(&usual_world()?);
+    Ok(())
+}

@@ -1,0 +1,29 @@
+use Rattle.std.proofs.Common.{[], refl}
+use Rattle.munged_run.specs.Program.{answered, unkeyed, unseeded}
+use Rattle.munged_run.proofs.RunLemmas.{session_answered}
+use Rattle.munged_run.proofs.session.run_session.Goals as goal
+
+pub returns-in-Err-clause-came : goal.returns-in-Err-clause-came
+returns-in-Err-clause-came g c = unkeyed (refl, refl, refl) c.in-Err.ensures.no_key
+
+pub returns-in-Err-read_seed-clause-came : goal.returns-in-Err-read_seed-clause-came
+returns-in-Err-read_seed-clause-came g c =
+    let key = c.in-Ok.ensures.key in
+    let no_seed = rw c.in-Ok.ensures.kept at c.in-Err-read_seed.ensures.no_seed in
+    unseeded (refl, refl, refl) key.key key.holds no_seed
+
+pub returns-clause-came : goal.returns-clause-came
+returns-clause-came g c =
+    let key = c.in-Ok.ensures.key in
+    let seed = rw c.in-Ok.ensures.kept at c.in-Ok-read_seed.ensures.seed in
+    answered (session_answered _ _ _ _ _ key.key c.in-Ok-read_seed.seed c.usual.result
+    c.caller-who.result c.session-end.result _ _ key.holds seed
+    (record {
+      default_ttl = c.usual.ensures.default_ttl;
+      max_ttl = c.usual.ensures.max_ttl;
+      skew = c.usual.ensures.skew;
+      addr = c.usual.ensures.addr;
+    })
+    c.caller-who.ensures c.new-replay.ensures.floor c.new-replay.ensures.kept
+    (c.session-end.ensures.ran key.key [] key.subkeys_are c.new-replay.ensures.stands)
+    c.after.ensures)

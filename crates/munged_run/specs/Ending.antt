@@ -1,0 +1,80 @@
+-- How a run of the program ends: the status of the process, and the line on standard error.
+use Rattle.std.specs.Prelude.{◌≡◌, ℕ, codes, List, [], ◌++◌, Option}
+use Rattle.std.specs.Fmt.{decimal}
+use Rattle.std.specs.Io.KnownBytes.{Appends}
+use Rattle.byte_io.specs.Counts.{Rose}
+use Rattle.session_core.specs.declared.end.HowEnded.{HowEnded}
+use Rattle.session_core.specs.declared.end.HowEnded.TheVariants as how
+use Rattle.munged_run.specs.Status.{success, bad_words, unread_file, bad_size, failed_input, failed_output, failed_clock, bad_request, want_of_memory, too_many_requests}
+
+pub data Ending : Type 0 where
+  -- the command was done
+  done : Ending
+  -- the words are no command
+  no_command : Ending
+  -- the file of this name could not be read
+  unread : (name : List ℕ) → Ending
+  -- so many bytes were read of the key file or the seed file of this name, which are too few or too
+  -- many
+  wrong_size : (name : List ℕ) (size : ℕ) → Ending
+  -- the input, the output or the clock failed
+  input_failed : Ending
+  output_failed : Ending
+  clock_failed : Ending
+  -- at this byte of the input begins what is no request
+  malformed : (place : ℕ) → Ending
+  -- no memory was left
+  no_memory : Ending
+  -- all requests were answered that one session may answer, and more came
+  budget : Ending
+
+-- the status of the process
+abbrev pub status_of : Ending → ℕ
+status_of done = success
+status_of no_command = bad_words
+status_of (unread name) = unread_file
+status_of (wrong_size name size) = bad_size
+status_of input_failed = failed_input
+status_of output_failed = failed_output
+status_of clock_failed = failed_clock
+status_of (malformed place) = bad_request
+status_of no_memory = want_of_memory
+status_of budget = too_many_requests
+
+-- the line on standard error, with its end; none where the command was done
+abbrev pub line_of : Ending → List ℕ
+line_of done = []
+line_of no_command = codes "munged: bad words\n"
+line_of (unread name) = codes "munged: cannot read " ++ (name ++ codes "\n")
+line_of (wrong_size name size) =
+    codes "munged: " ++ (name ++ (codes " has " ++ (decimal size ++ codes " bytes\n")))
+line_of input_failed = codes "munged: input failed\n"
+line_of output_failed = codes "munged: output failed\n"
+line_of clock_failed = codes "munged: clock failed\n"
+line_of (malformed place) =
+    codes "munged: malformed frame at " ++ (decimal place ++ codes "\n")
+line_of no_memory = codes "munged: no memory\n"
+line_of budget = codes "munged: 1048576 requests answered\n"
+
+-- how the program ends after a session that ended so
+abbrev pub after_session : HowEnded → Ending
+after_session how.Done = done
+after_session how.ReadFault = input_failed
+after_session how.WriteFault = output_failed
+after_session how.ClockFault = clock_failed
+after_session (how.Malformed place) = malformed place
+after_session how.Budget = budget
+after_session how.NoMemory = no_memory
+
+-- what contracts see of the error stream: the bytes that it took, where it tells them, and how many
+-- writes failed
+pub record Errors : Type 0 where
+  pub taken : Option (List ℕ)
+  pub faults : ℕ
+
+abbrev pub errors_of : (taken : Option (List ℕ)) → (faults : ℕ) → Errors
+errors_of taken faults = record { taken = taken; faults = faults }
+
+-- the stream took this and nothing else, unless a write to it failed
+abbrev pub Says : (before after : Errors) → (line : List ℕ) → Type 0
+Says before after line = ¬ Rose before.faults after.faults → Appends before.taken after.taken line

@@ -1,0 +1,17 @@
+-- What an `Ending` of the code stands for.
+use Rattle.munged_run.specs.Ending.{Ending}
+use Rattle.munged_run.specs.Ending as told
+use Rattle.munged_run.specs.declared.ending.Ending.{Ending as EndingHeld}
+use Rattle.munged_run.specs.declared.ending.Ending.TheVariants.{Done, NoCommand, Unread, WrongSize, InputFailed, OutputFailed, ClockFailed, Malformed, NoMemory, Budget}
+
+abbrev pub ending_told : EndingHeld → Ending
+ending_told Done = told.done
+ending_told NoCommand = told.no_command
+ending_told (Unread name) = told.unread name.now
+ending_told (WrongSize name size) = told.wrong_size name.now size
+ending_told InputFailed = told.input_failed
+ending_told OutputFailed = told.output_failed
+ending_told ClockFailed = told.clock_failed
+ending_told (Malformed place) = told.malformed place
+ending_told NoMemory = told.no_memory
+ending_told Budget = told.budget

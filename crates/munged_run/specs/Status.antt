@@ -1,0 +1,42 @@
+-- The statuses of the process.
+use Rattle.std.specs.Prelude.{ℕ}
+
+-- the command was done
+abbrev pub success : ℕ
+success = 0
+
+-- the words are no command
+abbrev pub bad_words : ℕ
+bad_words = 1
+
+-- a file could not be read
+abbrev pub unread_file : ℕ
+unread_file = 2
+
+-- the key file or the seed file has a wrong size
+abbrev pub bad_size : ℕ
+bad_size = 3
+
+-- a read of the input failed
+abbrev pub failed_input : ℕ
+failed_input = 5
+
+-- a write to the output failed
+abbrev pub failed_output : ℕ
+failed_output = 6
+
+-- the clock gave no reading
+abbrev pub failed_clock : ℕ
+failed_clock = 7
+
+-- what came is no request
+abbrev pub bad_request : ℕ
+bad_request = 9
+
+-- no memory was left
+abbrev pub want_of_memory : ℕ
+want_of_memory = 10
+
+-- all requests were answered that one session may answer, and more came
+abbrev pub too_many_requests : ℕ
+too_many_requests = 11

@@ -1,0 +1,79 @@
+//! A line on the error stream, written without taking memory.
+
+ghost use Rattle.std.specs.Prelude.{◌≡◌, [], None, OnErr, OnOk};
+ghost use Rattle.std.specs.Io.KnownBytes.{Appends};
+ghost use Rattle.byte_io.specs.Counts.{Rose};
+ghost use Rattle.munged_run.specs.Line.{number_text, text_of};
+
+use byte_io::{AllWritten, Sink, write_all};
+use itoa::Buffer;
+use munge_types::Failed;
+
+/// A line in parts, one behind the other, of which any may be empty.
+#[derive(Clone, Copy, Debug, PartialEq, Eq)]
+pub struct Line<'a> {
+    pub front: &'static str,
+    pub name: &'a str,
+    pub middle: &'static str,
+    pub number: Option<u64>,
+    pub back: &'static str,
+}
+
+impl Line<'_> {
+    /// A line of this front alone.
+    pub fn of(front: &'static str) -> Line<'static>
+        ensures front { result.front.now ≡ front.now }
+        ensures name { result.name.now ≡ [] }
+        ensures middle { result.middle.now ≡ [] }
+        ensures number { result.number ≡ None }
+        ensures back { result.back.now ≡ [] }
+    {
+        Line {
+            front,
+            name: "",
+            middle: "",
+            number: None,
+            back: "",
+        }
+    }
+}
+
+/// Writes a line, up to the first write that fails.
+pub fn write_line<E: Sink>(err: &mut E, line: Line<'_>) -> Result<(), Failed>
+    ensures written { OnOk result (Appends (E.taken err.old) (E.taken err.new) (text_of line.entry)) }
+    ensures failed { OnErr result (Rose (E.write_faults err.old) (E.write_faults err.new)) }
+{
+    put(err, line.front)?;
+    put(err, line.name)?;
+    put(err, line.middle)?;
+    put_number(err, line.number)?;
+    put(err, line.back)
+}
+
+/// Writes a part of a line.
+fn put<E: Sink>(err: &mut E, part: &str) -> Result<(), Failed>
+    ensures written { OnOk result (Appends (E.taken err.old) (E.taken err.new) part.now) }
+    ensures failed { OnErr result (Rose (E.write_faults err.old) (E.write_faults err.new)) }
+    ensures sound { OnOk result (E.write_faults err.new ≡ E.write_faults err.old) }
+{
+    match write_all(err, part.as_bytes()) {
+        AllWritten::All => Ok(()),
+        AllWritten::Failed(_) => Err(Failed),
+    }
+}
+
+/// Writes a number in decimal, if there is one.
+fn put_number<E: Sink>(err: &mut E, number: Option<u64>) -> Result<(), Failed>
+    ensures written { OnOk result
+        (Appends (E.taken err.old) (E.taken err.new) (number_text number)) }
+    ensures failed { OnErr result (Rose (E.write_faults err.old) (E.write_faults err.new)) }
+    ensures sound { OnOk result (E.write_faults err.new ≡ E.write_faults err.old) }
+{
+    match number {
+        Some(number) => {
+            let mut digits = Buffer::new();
+            put(err, digits.format(number))
+        }
+        None => put(err, ""),
+    }
+}
