@@ -1,5 +1,5 @@
 -- What an answer to a request of each kind leaves of a session.
-use Rattle.std.proofs.Common.{◌≡◌, ℕ, true, List, [], ◌∷◌, ◌++◌, length, Option, Some, refl, sym, ap, ◌∙◌, subst, inr}
+use Rattle.std.proofs.Common.{◌≡◌, ℕ, true, List, [], ◌∷◌, ◌++◌, Option, Some, refl, sym, ap, ◌∙◌, subst, inr}
 use Rattle.std.specs.Io.KnownBytes.{Consumes, Keeps}
 use Rattle.munge_types.specs.StandsFor.{Remembered, Stands}
 use Rattle.munge_types.specs.Status.{status_number}

@@ -1,5 +1,5 @@
 -- What a turn leaves behind, for each way that it can go.
-use Rattle.std.proofs.Common.{◌≡◌, ℕ, ◌+◌, ◌<◌, ◌≤◌, ◌^◌, Bool, List, [], ◌∷◌, ◌++◌, length, take, drop, Option, refl, sym, ap, ◌∙◌, subst, arith, inl, inr}
+use Rattle.std.proofs.Common.{◌≡◌, ℕ, ◌+◌, ◌<◌, ◌≤◌, ◌^◌, Bool, List, [], ◌∷◌, ◌++◌, length, take, drop, Option, refl, sym, ap, subst, arith, inl, inr}
 use Rattle.std.proofs.lemmas.List.{append-nil, length-append, length-drop, take-append-drop}
 use Rattle.std.specs.Io.KnownBytes.{Consumes, Appends}
 use Rattle.munge_types.specs.StandsFor.{Remembered, Stands}
@@ -15,8 +15,8 @@ use Rattle.session_core.specs.Reading.{ReadsNone, how_of}
 use Rattle.session_core.specs.Requests.{IsRequest}
 use Rattle.session_core.specs.Session.{Session}
 use Rattle.session_core.specs.SessionRan.{Beyond, IsProperPrefix, IsUntouched}
-use Rattle.session_core.specs.Things.{CameToEnd, Input, Moves, Outside, Things, outside_of, things_of}
-use Rattle.session_core.specs.Turn.{HasEnded, IsAnswered, IsBegun, IsLeft, IsTurned, LeavesUnanswered, Stage}
+use Rattle.session_core.specs.Things.{Input, outside_of, things_of}
+use Rattle.session_core.specs.Turn.{HasEnded, IsAnswered, IsTurned, LeavesUnanswered, Stage}
 use Rattle.session_core.specs.declared.answer.Unanswered.TheVariants.{ClockFault as Unclocked, NoMemory as NoRoomToAnswer}
 use Rattle.session_core.specs.declared.end.HowEnded.TheVariants.{ClockFault, WriteFault, NoMemory}
 use Rattle.session_core.specs.declared.request.Unread.{Unread}

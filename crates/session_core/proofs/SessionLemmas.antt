@@ -1,8 +1,7 @@
 -- A session goes on by one more request, and comes to its end.
-use Rattle.std.proofs.Common.{◌≡◌, ℕ, ◌+◌, ◌<◌, ◌≤◌, true, false, ◌||◌, Bool, List, [], ◌∷◌, ◌++◌, length, Option, refl, sym, ap, ◌∙◌, subst, arith, inl, inr}
+use Rattle.std.proofs.Common.{◌≡◌, ℕ, ◌+◌, ◌<◌, ◌≤◌, true, false, ◌||◌, Bool, List, [], ◌∷◌, ◌++◌, length, Option, refl, sym, ap, ◌∙◌, subst, arith, inl}
 use Rattle.std.proofs.lemmas.List.{append-nil, append_assoc, length-append}
 use Rattle.std.specs.List.{AllByRecursion, list_any}
-use Rattle.std.specs.Io.KnownBytes.{Consumes}
 use Rattle.byte_io.proofs.CountLemmas.{≤-Rose}
 use Rattle.byte_io.proofs.StreamLemmas.{consumes_more, appends_more}
 use Rattle.munge_types.specs.StandsFor.{Remembered, Stands}
@@ -18,7 +17,7 @@ use Rattle.session_core.specs.Reading.{IsLessThanOne, IsNoRequest, broken, cut}
 use Rattle.session_core.specs.Requests.{IsRequest, frames}
 use Rattle.session_core.specs.RunSoFar.{IsAsked, RunSoFar}
 use Rattle.session_core.specs.Session.{Session}
-use Rattle.session_core.specs.SessionRan.{AsksForOne, Beyond, Ends, GoesOn, IsStopped, Leaves, SessionRan, left, request_limit, stopped}
+use Rattle.session_core.specs.SessionRan.{Beyond, Leaves, SessionRan, left, request_limit, stopped}
 use Rattle.session_core.specs.Things.{CameToEnd, Input, Moves, Things, outside_of, things_of}
 use Rattle.session_core.specs.Turn.{HasEnded, IsTurned, Stage, stage_of}
 use Rattle.session_core.specs.declared.end.HowEnded.{HowEnded}

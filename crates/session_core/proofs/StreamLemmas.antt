@@ -1,5 +1,5 @@
 -- What is told of a stream of which nothing was read or written.
-use Rattle.std.proofs.Common.{◌≡◌, ℕ, List, [], Option, None, Some, refl, sym}
+use Rattle.std.proofs.Common.{ℕ, List, [], Option, None, Some, refl, sym}
 use Rattle.std.proofs.lemmas.List.{append-nil}
 use Rattle.std.specs.Io.KnownBytes.{Consumes, Appends, Keeps}
 

@@ -1,5 +1,5 @@
 -- What contracts see of the things that a session works on.
-use Rattle.std.specs.Prelude.{◌≡◌, ℕ, ◌≤◌, List, Option}
+use Rattle.std.specs.Prelude.{ℕ, ◌≤◌, List, Option}
 use Rattle.std.specs.Io.KnownBytes.{Consumes, Appends, IsAtEnd}
 use Rattle.byte_io.specs.Counts.{Rose}
 use Rattle.munge_types.specs.StandsFor.{Remembered, Stands}
