@@ -1,6 +1,6 @@
 -- A worked inner part, which the checker computes: `hello`, sealed on the host 10.11.12.13, and for
 -- anyone of one group. Its bytes were written out by hand from the table of the layout.
-use Rattle.std.specs.Prelude.{◌≡◌, ℕ, List, [], ◌∷◌, codes, refl}
+use Rattle.std.specs.Prelude.{◌≡◌, [], ◌∷◌, codes, refl}
 use Rattle.cred_inner.specs.InnerPart.{Content, any, inner_part}
 
 abbrev pub worked_content : Content
