@@ -1,6 +1,6 @@
--- Worked draws, which the checker computes: the stream of a seed of zeros, which is RFC 8439's of a
--- key of zeros and a nonce of zeros (appendix A.1, the first and the second vector). There each word
--- has its low byte first, and here its high byte.
+-- Worked draws, which the checker computes: the stream of a seed of zeros, which is RFC 8439's of
+-- a key of zeros and a nonce of zeros (appendix A.1, the first and the second vector). There each
+-- word has its low byte first, and here its high byte.
 use Rattle.std.specs.Prelude.{◌≡◌, ℕ, ◌-◌, ◌^◌, List, [], ◌∷◌, replicate, refl}
 use Rattle.rand_core.specs.Steps.{u32_at}
 use Rattle.rand_chacha.specs.Block.{quarter_round, column_round, diagonal_round, double_rounds, block_word}
@@ -22,14 +22,14 @@ pub first_vector : vector_at zero_seed 0 ≡
 unfolding u32_at quarter_round column_round diagonal_round double_rounds block_word
 first_vector = refl
 
--- the vector of the third draw, at place 12, which ends in the second block: c387b669 b2ee6586 there,
--- and 9f07e7be 5551387a
+-- the vector of the third draw, at place 12, which ends in the second block: c387b669 b2ee6586
+-- and 9f07e7be 5551387a there
 pub vector_over_two_blocks : vector_at zero_seed 12 ≡
     0x69 ∷ 0xb6 ∷ 0x87 ∷ 0xc3 ∷ 0x86 ∷ 0x65 ∷ 0xee ∷ 0xb2
     ∷ 0xbe ∷ 0xe7 ∷ 0x07 ∷ 0x9f ∷ 0x7a ∷ 0x38 ∷ 0x51 ∷ 0x55 ∷ []
 unfolding u32_at quarter_round column_round diagonal_round double_rounds block_word
 vector_over_two_blocks = refl
 
--- the place where a draw ends stands below 2 ^ 68
+-- where the stream ends, a draw goes on from its start
 pub place_at_the_end : next_place (2 ^ 68 - 2) ≡ 4
 place_at_the_end = refl
