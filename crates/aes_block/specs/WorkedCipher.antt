@@ -1,5 +1,5 @@
--- Worked encryptions, which the checker computes: the examples of FIPS 197, appendix C in its edition
--- of 2001, for keys of 128 and of 256 bits.
+-- Worked encryptions, which the checker computes: the examples of FIPS 197, appendix C in its
+-- edition of 2001, for keys of 128 and of 256 bits.
 use Rattle.std.specs.Prelude.{◌≡◌, ℕ, List, [], ◌∷◌, refl}
 use Rattle.std.specs.List.{range_with_len}
 use Rattle.aes_block.specs.Field.{every_byte, bit, xtimes, sum_of_powers, ◌•◌, inverse}
@@ -22,12 +22,16 @@ worked_key size = range_with_len 0 size
 pub encrypted_under_128_bits : cipher (worked_key 16) worked_block ≡
     0x69 ∷ 0xc4 ∷ 0xe0 ∷ 0xd8 ∷ 0x6a ∷ 0x7b ∷ 0x04 ∷ 0x30
     ∷ 0xd8 ∷ 0xcd ∷ 0xb7 ∷ 0x80 ∷ 0x70 ∷ 0xb4 ∷ 0xc5 ∷ 0x5a ∷ []
-unfolding every_byte bit xtimes sum_of_powers ◌•◌ inverse affine_bit affine sub_byte round last_round power_of_x rcon added_word next_word key_words expanded_by expanded_key round_key rounds finished encrypted cipher
+unfolding every_byte bit xtimes sum_of_powers ◌•◌ inverse affine_bit affine sub_byte round
+    last_round power_of_x rcon added_word next_word key_words expanded_by expanded_key round_key
+    rounds finished encrypted cipher
 encrypted_under_128_bits = refl
 
 -- with a key of 256 bits
 pub encrypted_under_256_bits : cipher (worked_key 32) worked_block ≡
     0x8e ∷ 0xa2 ∷ 0xb7 ∷ 0xca ∷ 0x51 ∷ 0x67 ∷ 0x45 ∷ 0xbf
     ∷ 0xea ∷ 0xfc ∷ 0x49 ∷ 0x90 ∷ 0x4b ∷ 0x49 ∷ 0x60 ∷ 0x89 ∷ []
-unfolding every_byte bit xtimes sum_of_powers ◌•◌ inverse affine_bit affine sub_byte round last_round power_of_x rcon added_word next_word key_words expanded_by expanded_key round_key rounds finished encrypted cipher
+unfolding every_byte bit xtimes sum_of_powers ◌•◌ inverse affine_bit affine sub_byte round
+    last_round power_of_x rcon added_word next_word key_words expanded_by expanded_key round_key
+    rounds finished encrypted cipher
 encrypted_under_256_bits = refl
