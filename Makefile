@@ -1,6 +1,8 @@
 # munged, built with the kit's command `rt`.
 #   make run          proves and builds the program, with a line for each crate; then runs the stored
 #                     first session, and seals a credential and opens it twice, frame by frame
+#   make try          proves and builds it, and runs it for what no clause says of main: that it hands
+#                     on all of its words, each stream and the status
 #   make install      proves and builds it, and puts it into DESTDIR PREFIX/sbin as munged
 #   make uninstall    takes it away from there
 #   make check        looks over the documents, the tests' vectors and what is made from the sources
@@ -15,7 +17,7 @@ PROGRAM = crates/munged_run
 BUILT = $(PROGRAM)/out/munged_run
 INSTALLED = $(DESTDIR)$(PREFIX)/sbin/munged
 
-.PHONY: run build install uninstall check docs
+.PHONY: run build try install uninstall check docs
 
 run: build
 	tools/first-session $(BUILT) $(PROGRAM)
@@ -23,6 +25,9 @@ run: build
 
 build:
 	tools/build munged_run $(CPU) -- session data/key 7 7
+
+try: build
+	tools/try-main $(BUILT)
 
 install: build
 	install -D -m 0755 $(BUILT) $(INSTALLED)

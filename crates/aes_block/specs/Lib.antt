@@ -7,3 +7,4 @@ pub mod KeyExpansion
 pub mod Cipher
 pub mod Schedule
 pub mod DataKey
+pub mod WorkedCipher

@@ -1,4 +1,5 @@
--- The other transformations of a round (FIPS 197, 5.1.2 to 5.1.4), and the round made of them (5.1).
+-- The other transformations of a round (FIPS 197, 5.1.2 to 5.1.4), and the round made of them
+-- (5.1).
 use Rattle.std.specs.Prelude.{ℕ}
 use Rattle.aes_block.specs.Field.{◌⊕◌, ◌•◌}
 use Rattle.aes_block.specs.State.{Column, StateArray, add_columns}

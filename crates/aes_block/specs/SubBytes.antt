@@ -7,7 +7,8 @@ use Rattle.aes_block.specs.State.{Column, StateArray}
 -- bit i of the affine transformation of b
 unfoldable pub affine_bit : ℕ → ℕ → ℕ
 affine_bit b i =
-    (bit b i + bit b ((i + 4) % 8) + bit b ((i + 5) % 8) + bit b ((i + 6) % 8) + bit b ((i + 7) % 8) + bit 0x63 i) % 2
+    (bit b i + bit b ((i + 4) % 8) + bit b ((i + 5) % 8) + bit b ((i + 6) % 8)
+    + bit b ((i + 7) % 8) + bit 0x63 i) % 2
 
 -- the affine transformation of a byte (5.1.1)
 unfoldable pub affine : ℕ → ℕ

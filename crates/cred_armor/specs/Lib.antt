@@ -1,3 +1,4 @@
 pub mod CredentialText
 pub mod RefusedText
 pub mod Trimming
+pub mod WorkedArmor

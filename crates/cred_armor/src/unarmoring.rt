@@ -75,8 +75,8 @@ fn framed(text: &[u8]) -> Option<&[u8]>
     behind.strip_suffix(CLOSING.as_bytes())
 }
 
-/// The one body that the text spells. The text may have spaces round it; the base64 has to be in its
-/// canonical spelling.
+/// The one body that the text spells. The text may have spaces round it; the base64 has to be in
+/// its canonical spelling.
 pub fn unarmor(alloc: Global, text: &[u8]) -> Result<Vec<u8>, ArmorRefused>
     ensures spelled { IfOk result (λ body. Spells text.now body.items) }
     ensures unspelled { IsErrOf result ArmorRefused.NotArmor

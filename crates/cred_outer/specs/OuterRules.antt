@@ -1,5 +1,5 @@
 -- The decode rules 2 to 7, which look at the outside of a credential's body alone.
-use Rattle.std.specs.Prelude.{ℕ, ◌+◌, ◌-◌, ◌%◌, Bool, true, false, not, ◌&&◌, ◌||◌, nat_eq, nat_lt, nat_le, cond, List, [], ◌∷◌, length, slice_index}
+use Rattle.std.specs.Prelude.{ℕ, ◌+◌, ◌-◌, ◌%◌, Bool, true, false, not, ◌&&◌, ◌||◌, nat_eq, nat_lt, nat_le, if◌then◌else◌, List, [], ◌∷◌, length, slice_index}
 use Rattle.std.specs.declared.option.Option.{Option}
 use Rattle.std.specs.declared.option.Option.TheVariants.{None, Some}
 use Rattle.munge_types.specs.Algorithms.{cipher_number, mac_number, mac_size}
@@ -41,8 +41,8 @@ is_cipher number =
 -- 3: there is a whole head, and its cipher is none, AES-128 or AES-256
 abbrev pub cipher_rule : List ℕ → Option Status
 cipher_rule body =
-    cond (nat_lt (length body) head_size) (Some BadCredential)
-    (unless (is_cipher (cipher_in body)) BadCipher)
+    if nat_lt (length body) head_size then Some BadCredential
+    else unless (is_cipher (cipher_in body)) BadCipher
 
 -- a MAC has this number
 abbrev pub is_mac : ℕ → Bool
@@ -71,15 +71,16 @@ realm_rule body = unless (nat_eq (realm_size_in body) realm_size) BadRealm
 -- the bytes of the initial vector of the cipher of this number
 abbrev pub size_of_vector : ℕ → ℕ
 size_of_vector number =
-    cond (nat_eq number (cipher_number ciphers.None)) (vector_size ciphers.None)
-    (cond (nat_eq number (cipher_number ciphers.Aes128)) (vector_size ciphers.Aes128)
-    (vector_size ciphers.Aes256))
+    if nat_eq number (cipher_number ciphers.None) then vector_size ciphers.None
+    else if nat_eq number (cipher_number ciphers.Aes128) then vector_size ciphers.Aes128
+    else vector_size ciphers.Aes256
 
 -- the bytes of the MAC of this number
 abbrev pub size_of_mac : ℕ → ℕ
 size_of_mac number =
-    cond (nat_eq number (mac_number Sha1)) (mac_size Sha1)
-    (cond (nat_eq number (mac_number Sha256)) (mac_size Sha256) (mac_size Sha512))
+    if nat_eq number (mac_number Sha1) then mac_size Sha1
+    else if nat_eq number (mac_number Sha256) then mac_size Sha256
+    else mac_size Sha512
 
 -- the bytes of a body before its sealed part: head, initial vector and MAC
 abbrev pub sealed_at : List ℕ → ℕ

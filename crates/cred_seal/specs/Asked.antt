@@ -1,5 +1,5 @@
 -- What a client asks to be sealed, and the algorithms that it asks for.
-use Rattle.std.specs.Prelude.{ℕ, nat_eq, ◌||◌, cond, List}
+use Rattle.std.specs.Prelude.{ℕ, nat_eq, ◌||◌, if◌then◌else◌, List}
 use Rattle.std.specs.declared.option.Option.{Option}
 use Rattle.std.specs.declared.option.Option.TheVariants.{None, Some}
 use Rattle.munge_types.specs.Algorithms.{cipher_number, mac_number}
@@ -40,10 +40,11 @@ default = 1
 -- the cipher that a number asks for: its own number does, and the default is AES-128
 abbrev pub cipher_asked : ℕ → Option Cipher
 cipher_asked number =
-    cond (nat_eq number (cipher_number cipher.None)) (Some cipher.None)
-    (cond (nat_eq number (cipher_number cipher.Aes128) || nat_eq number default)
-    (Some cipher.Aes128)
-    (cond (nat_eq number (cipher_number cipher.Aes256)) (Some cipher.Aes256) None))
+    if nat_eq number (cipher_number cipher.None) then Some cipher.None
+    else if nat_eq number (cipher_number cipher.Aes128) || nat_eq number default
+    then Some cipher.Aes128
+    else if nat_eq number (cipher_number cipher.Aes256) then Some cipher.Aes256
+    else None
 
 -- SHA-1, but with AES-256: such a key has 32 bytes, and SHA-1 gives 20
 abbrev pub sha1_with : Cipher → Option MacKind
@@ -54,6 +55,7 @@ sha1_with cipher.Aes256 = None
 -- the MAC that a number asks for with a cipher: its own number does, and the default is SHA-256
 abbrev pub mac_asked : Cipher → ℕ → Option MacKind
 mac_asked cipher number =
-    cond (nat_eq number (mac_number Sha1)) (sha1_with cipher)
-    (cond (nat_eq number (mac_number Sha256) || nat_eq number default) (Some Sha256)
-    (cond (nat_eq number (mac_number Sha512)) (Some Sha512) None))
+    if nat_eq number (mac_number Sha1) then sha1_with cipher
+    else if nat_eq number (mac_number Sha256) || nat_eq number default then Some Sha256
+    else if nat_eq number (mac_number Sha512) then Some Sha512
+    else None

@@ -6,3 +6,4 @@ pub mod RoundTrip
 pub mod SealRefused
 pub mod SealedContent
 pub mod SealedText
+pub mod WorkedDice

@@ -1,5 +1,5 @@
 -- Why a request is not sealed.
-use Rattle.std.specs.Prelude.{◌≡◌, nat_lt, cond, length}
+use Rattle.std.specs.Prelude.{◌≡◌, nat_lt, if◌then◌else◌, length}
 use Rattle.std.specs.declared.option.Option.{Option}
 use Rattle.std.specs.declared.option.Option.TheVariants.{None, Some}
 use Rattle.munge_types.specs.declared.algorithms.Cipher.{Cipher}
@@ -17,8 +17,9 @@ first_refusal asked = by_cipher (cipher_asked asked.cipher)
     by_mac : Option MacKind → Option SealRefused
     by_mac None = Some BadMac
     by_mac (Some kind) =
-        cond (nat_lt payload_limit (length asked.payload))
-        (Some (BadLength (length asked.payload))) None
+        if nat_lt payload_limit (length asked.payload)
+        then Some (BadLength (length asked.payload))
+        else None
 
     by_cipher : Option Cipher → Option SealRefused
     by_cipher None = Some BadCipher

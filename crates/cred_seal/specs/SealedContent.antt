@@ -1,5 +1,5 @@
 -- What a sealed credential says.
-use Rattle.std.specs.Prelude.{ℕ, nat_eq, cond, min, List}
+use Rattle.std.specs.Prelude.{ℕ, nat_eq, if◌then◌else◌, min, List}
 use Rattle.munge_types.specs.declared.identity.Identity.{Identity}
 use Rattle.munge_types.specs.declared.settings.Settings.{Settings}
 use Rattle.cred_inner.specs.InnerPart.{Content}
@@ -9,8 +9,9 @@ use Rattle.cred_seal.specs.Asked.{Asked}
 -- 4294967295 is, and else what is asked for, up to the maximum.
 abbrev pub stored_ttl : Settings → ℕ → ℕ
 stored_ttl settings ttl =
-    cond (nat_eq ttl 0) settings.default_ttl
-    (cond (nat_eq ttl 4294967295) settings.max_ttl (min ttl settings.max_ttl))
+    if nat_eq ttl 0 then settings.default_ttl
+    else if nat_eq ttl 4294967295 then settings.max_ttl
+    else min ttl settings.max_ttl
 
 -- The content of the credential that this caller asked for at this moment.
 abbrev pub sealed_content : Settings → Asked → Identity → (moment : ℕ) → (salt : List ℕ) → Content

@@ -59,7 +59,8 @@ fn cipher_asked(number: u8) -> Option<Cipher>
     }
 }
 
-/// The MAC of this number in a request, and None where none has it that can be used with the cipher.
+/// The MAC of this number in a request, and None where none has it that can be used with the
+/// cipher.
 fn mac_asked(cipher: Cipher, number: u8) -> Option<MacKind>
     ensures kind { result ≡ mac_asked cipher number }
     ensures keyed { IfSome result (λ kind.

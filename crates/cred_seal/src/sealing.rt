@@ -52,9 +52,9 @@ impl fmt::Display for SealRefused {
 
 impl Error for SealRefused {}
 
-/// The text of the credential that this caller asks for, sealed under the subkeys at this moment, in
-/// seconds since 1970, with this salt; or the first cause to refuse the request. Without a cipher
-/// the initial vector is not used.
+/// The text of the credential that this caller asks for, sealed under the subkeys at this moment,
+/// in seconds since 1970, with this salt; or the first cause to refuse the request. Without a
+/// cipher the initial vector is not used.
 pub fn seal(
     alloc: Global,
     subkeys: &Subkeys,
@@ -84,8 +84,8 @@ pub fn seal(
     // part and its padding for the body, then 7 bytes, and 4 for each 3 of the body or fewer at its
     // end, for the text. For SHA-512, AES and 1,048,576 bytes of payload that is 1,048,709 and
     // 1,398,287. The payload is copied twice on its way into the text: into the body, where it is
-    // encrypted in place, and from there as base64 right into the text. It is hashed where the caller
-    // has it.
+    // encrypted in place, and from there as base64 right into the text. It is hashed where the
+    // caller has it.
     let (cipher, kind) = algorithms_of(request)?;
     let inner = Inner {
         salt,

@@ -1,3 +1,4 @@
 pub mod Absorbed
 pub mod Hasher
 pub mod Hmac
+pub mod WorkedMacs
