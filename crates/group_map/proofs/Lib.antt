@@ -1,0 +1,8 @@
+pub mod BoolLemmas
+pub mod DigitLemmas
+pub mod FormLemmas
+pub mod LineLemmas
+pub mod MemberLemmas
+pub mod NameLemmas
+pub mod PieceLemmas
+pub mod TableLemmas

@@ -1,6 +1,6 @@
 //! Texts cut at their marks.
 
-ghost use Rattle.std.specs.Prelude.{◌≡◌, ◌<◌, [], ◌∷◌, length, IfSome, MatchOption};
+ghost use Rattle.std.specs.Prelude.{◌≡◌, ◌<◌, nat_eq, [], ◌∷◌, length, position, IfSome, MatchOption};
 ghost use Rattle.group_map.specs.Lines.{is_passed_over, lines_of, pieces_of};
 
 /// What ends a line.
@@ -16,8 +16,15 @@ pub(crate) fn cut(text: &[u8], mark: u8) -> Option<(&[u8], &[u8])>
         (λ parts. pieces_of mark text.now ≡ parts.0.now ∷ pieces_of mark parts.1.now) }
     ensures shorter { IfSome result (λ parts. length parts.1.now < length text.now) }
 {
-    let at = text.iter().position(|byte| *byte == mark)?;
+    let at = first_mark(text, mark)?;
     Some((&text[..at], &text[at + 1..]))
+}
+
+/// Where the first of these marks stands in the text, if there is one.
+fn first_mark(text: &[u8], mark: u8) -> Option<usize>
+    ensures { result ≡ position (λ byte. nat_eq byte mark) text.now }
+{
+    text.iter().position(|byte| *byte == mark)
 }
 
 /// The first line of the text, without its line feed, and the text behind it. None where there is no
@@ -31,7 +38,7 @@ pub(crate) fn next_line(text: &[u8]) -> Option<(&[u8], &[u8])>
         return None;
     }
     match cut(text, LINE_FEED) {
-        Some(parts) => Some(parts),
+        Some((line, behind)) => Some((line, behind)),
         None => Some((text, &[])),
     }
 }

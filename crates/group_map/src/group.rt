@@ -24,7 +24,10 @@ pub(crate) fn group_of(line: &[u8]) -> Option<Group<'_>>
     let (name, behind) = cut(line, COLON)?;
     let (_password, behind) = cut(behind, COLON)?;
     let (gid, users) = cut(behind, COLON)?;
-    if cut(users, COLON).is_some() || name.is_empty() {
+    if let Some(_) = cut(users, COLON) {
+        return None;
+    }
+    if name.is_empty() {
         return None;
     }
     let gid = id_of(gid)?;

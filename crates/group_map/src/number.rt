@@ -13,7 +13,10 @@ const MOST_DIGITS: usize = 10;
 pub(crate) fn id_of(digits: &[u8]) -> Option<u32>
     ensures { result ≡ id_of digits.now }
 {
-    if digits.is_empty() || digits.len() > MOST_DIGITS {
+    if digits.is_empty() {
+        return None;
+    }
+    if digits.len() > MOST_DIGITS {
         return None;
     }
     u32::try_from(value_of(digits)?).ok()

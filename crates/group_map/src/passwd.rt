@@ -28,7 +28,10 @@ pub(crate) fn user_of(line: &[u8]) -> Option<User<'_>>
     let (gid, behind) = cut(behind, COLON)?;
     let (_comment, behind) = cut(behind, COLON)?;
     let (_home, shell) = cut(behind, COLON)?;
-    if cut(shell, COLON).is_some() || name.is_empty() {
+    if let Some(_) = cut(shell, COLON) {
+        return None;
+    }
+    if name.is_empty() {
         return None;
     }
     let uid = id_of(uid)?;
