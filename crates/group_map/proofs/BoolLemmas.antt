@@ -43,13 +43,3 @@ pub list_any-and : {X : Type 0} (condition : Bool) (test : X → Bool) (xs : Lis
 list_any-and true test xs = refl
 list_any-and false test [] = refl
 list_any-and false test (x ∷ xs) = list_any-and false test xs
-
-pub or_assoc : (a b c : Bool) → (a || b) || c ≡ a || (b || c)
-or_assoc true b c = refl
-or_assoc false b c = refl
-
-pub or_comm : (a b : Bool) → a || b ≡ b || a
-or_comm true true = refl
-or_comm true false = refl
-or_comm false true = refl
-or_comm false false = refl

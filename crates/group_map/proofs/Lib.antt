@@ -1,6 +1,5 @@
 pub mod BoolLemmas
 pub mod DigitLemmas
-pub mod FormLemmas
 pub mod LineLemmas
 pub mod MemberLemmas
 pub mod NameLemmas

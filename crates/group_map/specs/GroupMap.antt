@@ -40,3 +40,7 @@ listings groups = flat_map (λ group. map (λ name. (group.0, name)) group.1) gr
 pub record IsOf (map : GroupTables) (passwd group : List ℕ) : Type 0 where
   pub users_are : Holds map.users (users_of passwd)
   pub lists_are : Holds map.lists (listings (groups_of group))
+
+-- the map is that of some two files
+abbrev pub IsOfFiles : GroupTables → Type 0
+IsOfFiles map = ∥ ((passwd : List ℕ) × ((group : List ℕ) × IsOf map passwd group)) ∥₁

@@ -3,7 +3,7 @@
 ghost use Rattle.std.specs.Prelude.{◌≡◌, ◌≢◌, ℕ, List, [], None, Some, IfOk, IsErrOf, OnOk};
 ghost use Rattle.group_map.specs.FirstBadLine.{first_bad};
 ghost use Rattle.group_map.specs.GroupLine.{is_group_line};
-ghost use Rattle.group_map.specs.GroupMap.{IsOf};
+ghost use Rattle.group_map.specs.GroupMap.{IsOf, IsOfFiles};
 ghost use Rattle.group_map.specs.Membership.{is_member};
 ghost use Rattle.group_map.specs.PasswdLine.{is_passwd_line};
 
@@ -31,12 +31,14 @@ struct Tables {
 }
 
 impl Model for GroupMap {
-    ghost use Rattle.group_map.specs.GroupMap.{GroupTables};
+    ghost use Rattle.group_map.specs.GroupMap.{GroupTables, IsOfFiles};
     ghost use Rattle.group_map.specs.Tables.{tables_of};
 
     ghost Value = { GroupTables };
 
     ghost view = { λ map. tables_of map.tables };
+
+    ghost invariant = { λ map. IsOfFiles (tables_of map.tables) };
 }
 
 impl GroupMap {
@@ -66,6 +68,13 @@ impl GroupMap {
         Ok(GroupMap {
             tables: Some(Tables { users, lists }),
         })
+    }
+
+    /// Does nothing: the map is that of some two files.
+    pub fn is_of_files(&self)
+        ensures { IsOfFiles self.now }
+    {
+        let _ = &self.tables;
     }
 
     /// Whether the UID is a member of the GID: some passwd line with this UID has a name that some
