@@ -1,0 +1,7 @@
+pub mod BoolLemmas
+pub mod DigitLemmas
+pub mod LineLemmas
+pub mod MemberLemmas
+pub mod NameLemmas
+pub mod PieceLemmas
+pub mod TableLemmas

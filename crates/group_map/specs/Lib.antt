@@ -1,0 +1,10 @@
+pub mod FirstBadLine
+pub mod Form
+pub mod GroupLine
+pub mod GroupMap
+pub mod Lines
+pub mod Membership
+pub mod Numbers
+pub mod PasswdLine
+pub mod RefusedText
+pub mod Tables
