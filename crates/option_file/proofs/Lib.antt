@@ -1,0 +1,4 @@
+pub mod Lists
+pub mod Tables
+pub mod Twice
+pub mod Unknown

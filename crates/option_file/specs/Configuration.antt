@@ -27,19 +27,19 @@ pub record Configuration : Type 0 where
 -- what a file's table says, with what stands for each key that is not there
 abbrev pub configuration_in : Members → Configuration
 configuration_in members = record {
-    key = text_or [] (at_key key.KeyFile members);
-    seed = text_or (codes "/dev/urandom") (at_key key.Seed members);
-    passwd = text_if (at_key key.Passwd members);
-    group = text_if (at_key key.Group members);
-    max_ttl = max_ttl_of members;
-    default_ttl = whole_or (min 300 (max_ttl_of members)) (at_key key.DefaultTtl members);
-    skew = whole_or 300 (at_key key.Skew members);
-    interval = whole_or 60 (at_key key.PurgeInterval members);
-    addr = address_or_none (at_key key.Address members);
-    workers = whole_or 4 (at_key key.Workers members);
-    queue = whole_or 64 (at_key key.Queue members);
-    sockets = map line_of (list_or_none (at_key key.Socket members))
-  }
+  key = text_or [] (at_key key.KeyFile members);
+  seed = text_or (codes "/dev/urandom") (at_key key.Seed members);
+  passwd = text_if (at_key key.Passwd members);
+  group = text_if (at_key key.Group members);
+  max_ttl = max_ttl_of members;
+  default_ttl = whole_or (min 300 (max_ttl_of members)) (at_key key.DefaultTtl members);
+  skew = whole_or 300 (at_key key.Skew members);
+  interval = whole_or 60 (at_key key.PurgeInterval members);
+  addr = address_or_none (at_key key.Address members);
+  workers = whole_or 4 (at_key key.Workers members);
+  queue = whole_or 64 (at_key key.Queue members);
+  sockets = map line_of (list_or_none (at_key key.Socket members));
+}
 
 -- what a file says that is not refused
 abbrev pub configuration_of : List ℕ → Configuration

@@ -27,17 +27,17 @@ socket_refusal value = in_table (as_table value)
 -- who the callers are on a socket
 abbrev pub identity_in : Members → Identity
 identity_in members = record {
-    uid = whole_or 0 (at_key key.SocketUid members);
-    gid = whole_or 0 (at_key key.SocketGid members);
-    control = flag_or false (at_key key.SocketControl members)
-  }
+  uid = whole_or 0 (at_key key.SocketUid members);
+  gid = whole_or 0 (at_key key.SocketGid members);
+  control = flag_or false (at_key key.SocketControl members);
+}
 
 -- what a socket's table says
 abbrev pub line_in : Members → SocketLine
 line_in members = record {
-    path = text_or [] (at_key key.SocketPath members);
-    who = identity_in members
-  }
+  path = text_or [] (at_key key.SocketPath members);
+  who = identity_in members;
+}
 
 -- what a listed value says
 abbrev pub line_of : Data → SocketLine

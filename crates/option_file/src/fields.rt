@@ -63,11 +63,7 @@ pub(crate) fn text_or(
 }
 
 /// The text at a key, if the key is there.
-pub(crate) fn text_if(
-    alloc: Global,
-    table: &Table,
-    key: Key,
-) -> Result<Option<Name>, OptionRefused>
+pub(crate) fn text_if(alloc: Global, table: &Table, key: Key) -> Result<Option<Name>, OptionRefused>
     ensures { let found = at_key key (table_view table.now) in
         Gives (λ name. name) (allowed text key found) (text_if found) result }
 {

@@ -39,18 +39,18 @@ impl Model for Options {
     ghost Value = { Configuration };
 
     ghost view = { λ options. record {
-        key = options.key;
-        seed = options.seed;
-        passwd = options.passwd;
-        group = options.group;
-        max_ttl = options.settings.max_ttl;
-        default_ttl = options.settings.default_ttl;
-        skew = options.settings.skew;
-        interval = options.interval;
-        addr = options.settings.addr;
-        workers = options.workers;
-        queue = options.queue;
-        sockets = options.sockets.items
+      key = options.key;
+      seed = options.seed;
+      passwd = options.passwd;
+      group = options.group;
+      max_ttl = options.settings.max_ttl;
+      default_ttl = options.settings.default_ttl;
+      skew = options.settings.skew;
+      interval = options.interval;
+      addr = options.settings.addr;
+      workers = options.workers;
+      queue = options.queue;
+      sockets = options.sockets.items;
     } };
 
     ghost invariant = { λ options.

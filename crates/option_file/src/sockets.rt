@@ -117,10 +117,7 @@ fn refuse_twice(lines: &[SocketLine]) -> Result<(), OptionRefused>
 }
 
 /// The sockets of a file's table.
-pub(crate) fn read_sockets(
-    alloc: Global,
-    table: &Table,
-) -> Result<Vec<SocketLine>, OptionRefused>
+pub(crate) fn read_sockets(alloc: Global, table: &Table) -> Result<Vec<SocketLine>, OptionRefused>
     ensures some { IfOk result (λ lines. 1 ≤ length lines.items) }
     ensures within { IfOk result (λ lines. length lines.items ≤ 64) }
     ensures exact { let found = at_key Key.Socket (table_view table.now) in
