@@ -9,6 +9,7 @@ use Rattle.option_file.specs.declared.refused.OptionRefused.TheVariants.{NoMemor
 
 -- nothing is refused and the answer, seen by `seen`, is what is said; or the answer is the refusal,
 -- or want of memory, which says nothing of the file
-abbrev pub Gives : {A B : Type 0} → (A → B) → Option OptionRefused → B → Result A OptionRefused → Type 0
+abbrev pub Gives : {A B : Type 0} → (seen : A → B) → (refusal : Option OptionRefused) → (said : B)
+    → Result A OptionRefused → Type 0
 Gives seen refusal said (Ok given) = (refusal ≡ None) × (seen given ≡ said)
 Gives seen refusal said (Err refused) = refused ≢ NoMemory → refusal ≡ Some refused

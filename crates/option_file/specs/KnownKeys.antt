@@ -30,7 +30,8 @@ is_known at name = list_any (bytes_eq name) (map spelling_of (keys_of at))
 -- the first of two texts in byte order
 abbrev pub earlier : List ℕ → Option (List ℕ) → Option (List ℕ)
 earlier name None = Some name
-earlier name (Some other) = (if is_lt (slice_cmp nat_cmp name other) then Some name else Some other)
+earlier name (Some other) =
+    (if is_lt (slice_cmp nat_cmp name other) then Some name else Some other)
 
 -- the first key, in byte order, that the table may not have, wherever it stands among the members
 abbrev pub first_unknown : Place → Members → Option (List ℕ)

@@ -15,16 +15,20 @@ use Rattle.option_file.specs.declared.known_keys.Place.TheVariants as place
 use Rattle.option_file.specs.declared.refused.OptionRefused.{OptionRefused}
 use Rattle.option_file.specs.declared.refused.OptionRefused.TheVariants.{TooLong, NotToml}
 
--- the first cause in a file's table: an unknown key; then the keys in the order of their rules, of
--- which `socket` is the last
-abbrev pub table_refusal : Members → Option OptionRefused
-table_refusal members =
-    first_of (unknown_refusal place.File members
+-- the rules of a file's table: no unknown key; then the keys in their order, of which `socket` is
+-- the last
+abbrev pub table_rules : Members → List (Option OptionRefused)
+table_rules members =
+    unknown_refusal place.File members
     ∷ first_of (name_rules members)
     ∷ first_of (time_rules members)
     ∷ allowed address key.Address (at_key key.Address members)
     ∷ first_of (crew_rules members)
-    ∷ sockets_refusal (at_key key.Socket members) ∷ [])
+    ∷ sockets_refusal (at_key key.Socket members) ∷ []
+
+-- the first cause in a file's table
+abbrev pub table_refusal : Members → Option OptionRefused
+table_refusal members = first_of (table_rules members)
 
 -- the table that bytes are, as TOML has it
 abbrev pub document_of : List ℕ → Option Members

@@ -69,12 +69,14 @@ list key value = listed (as_array value)
     listed (Some items) = counted (length (values_of items))
 
 -- a key that has to be there, and what is asked of its value
-abbrev pub needed : (Key → Data → Option OptionRefused) → Key → Option Data → Option OptionRefused
+abbrev pub needed : (asked : Key → Data → Option OptionRefused) → Key → Option Data
+    → Option OptionRefused
 needed asked key None = Some (Missing key)
 needed asked key (Some value) = asked key value
 
 -- a key that may be there, and what is asked of its value then
-abbrev pub allowed : (Key → Data → Option OptionRefused) → Key → Option Data → Option OptionRefused
+abbrev pub allowed : (asked : Key → Data → Option OptionRefused) → Key → Option Data
+    → Option OptionRefused
 allowed asked key None = None
 allowed asked key (Some value) = asked key value
 

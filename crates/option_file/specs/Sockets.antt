@@ -67,10 +67,14 @@ twice_refusal lines = refusal (first_twice [] 0 lines)
     refusal None = None
     refusal (Some at) = Some (Twice at)
 
--- the first refusal at the key `socket`: of the list, then of each listed value in order, then of
--- their paths
-abbrev pub sockets_refusal : Option Data → Option OptionRefused
-sockets_refusal found =
-    first_of (needed list key.Socket found
+-- the rules of the key `socket`: of the list, then of each listed value in order, then of their
+-- paths
+abbrev pub sockets_rules : Option Data → List (Option OptionRefused)
+sockets_rules found =
+    needed list key.Socket found
     ∷ first_of (map socket_refusal (list_or_none found))
-    ∷ twice_refusal (map line_of (list_or_none found)) ∷ [])
+    ∷ twice_refusal (map line_of (list_or_none found)) ∷ []
+
+-- the first refusal at the key `socket`
+abbrev pub sockets_refusal : Option Data → Option OptionRefused
+sockets_refusal found = first_of (sockets_rules found)

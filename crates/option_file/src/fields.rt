@@ -161,7 +161,8 @@ pub(crate) fn whole_or(
     ensures low { IfOk result (λ number. low ≤ number) }
     ensures high { IfOk result (λ number. number ≤ high) }
     ensures exact { let found = at_key key (table_view table.now) in
-        Gives (λ number. number) (allowed (whole low high) key found) (whole_or usual found) result }
+        Gives (λ number. number) (allowed (whole low high) key found) (whole_or usual found)
+        result }
 {
     match value_at(table, key) {
         None => Ok(usual),

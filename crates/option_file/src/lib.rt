@@ -5,6 +5,7 @@ mod address;
 mod fields;
 mod key;
 mod known_keys;
+pub mod laws;
 mod name;
 mod options;
 mod parts;

@@ -54,7 +54,8 @@ impl Model for Options {
     } };
 
     ghost invariant = { λ options.
-        IsWithinLimits options.interval options.workers options.queue (length options.sockets.items) };
+        IsWithinLimits options.interval options.workers options.queue
+        (length options.sockets.items) };
 }
 
 /// The table of an option file.

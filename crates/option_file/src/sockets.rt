@@ -59,7 +59,8 @@ fn list(found: Option<&Value>) -> Result<&Array, OptionRefused>
 
 /// The socket that a listed value gives.
 fn line(alloc: Global, value: &Value) -> Result<SocketLine, OptionRefused>
-    ensures { Gives (λ line. line) (socket_refusal (view value.now)) (line_of (view value.now)) result }
+    ensures { Gives (λ line. line) (socket_refusal (view value.now)) (line_of (view value.now))
+        result }
 {
     let table = match value.as_table() {
         None => return Err(OptionRefused::Wrong(Key::Socket)),
@@ -78,7 +79,8 @@ fn line(alloc: Global, value: &Value) -> Result<SocketLine, OptionRefused>
 fn lines(alloc: Global, array: &Array) -> Result<Vec<SocketLine>, OptionRefused>
     ensures count { IfOk result (λ lines. length lines.items ≡ length array.now.items) }
     ensures exact { let values = values_of (array_view array.now) in
-        Gives (λ lines. lines.items) (first_of (map socket_refusal values)) (map line_of values) result }
+        Gives (λ lines. lines.items) (first_of (map socket_refusal values)) (map line_of values)
+        result }
 {
     let mut lines = Vec::new(alloc);
     for value in array {
@@ -121,7 +123,8 @@ pub(crate) fn read_sockets(alloc: Global, table: &Table) -> Result<Vec<SocketLin
     ensures some { IfOk result (λ lines. 1 ≤ length lines.items) }
     ensures within { IfOk result (λ lines. length lines.items ≤ 64) }
     ensures exact { let found = at_key Key.Socket (table_view table.now) in
-        Gives (λ lines. lines.items) (sockets_refusal found) (map line_of (list_or_none found)) result }
+        Gives (λ lines. lines.items) (sockets_refusal found) (map line_of (list_or_none found))
+        result }
 {
     let array = list(fields::value_at(table, Key::Socket))?;
     let read = lines(alloc, array)?;

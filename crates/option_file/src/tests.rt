@@ -59,8 +59,14 @@ const HEADS: &[(&str, &str)] = &[
     ("max_ttl = 1.5", "wrong max_ttl"),
     ("default_ttl = 0", "default_ttl out of range 0"),
     ("default_ttl = 3601", "default_ttl out of range 3601"),
-    ("max_ttl = 200\ndefault_ttl = 201", "default_ttl out of range 201"),
-    ("default_ttl = 9999\nmax_ttl = 9998", "max_ttl out of range 9998"),
+    (
+        "max_ttl = 200\ndefault_ttl = 201",
+        "default_ttl out of range 201",
+    ),
+    (
+        "default_ttl = 9999\nmax_ttl = 9998",
+        "max_ttl out of range 9998",
+    ),
     ("purge_interval = 0", "purge_interval out of range 0"),
     ("purge_interval = 61", "purge_interval out of range 61"),
     ("address = 1", "wrong address"),
@@ -99,10 +105,19 @@ const SOCKETS: &[(&str, &str)] = &[
     ("{ path = 'a' }", "missing socket.uid"),
     ("{ path = 'a', uid = 'b' }", "wrong socket.uid"),
     ("{ path = 'a', uid = -1 }", "socket.uid out of range -1"),
-    ("{ path = 'a', uid = 4294967295 }", "socket.uid out of range 4294967295"),
+    (
+        "{ path = 'a', uid = 4294967295 }",
+        "socket.uid out of range 4294967295",
+    ),
     ("{ path = 'a', uid = 1 }", "missing socket.gid"),
-    ("{ path = 'a', uid = 1, gid = 4294967295 }", "socket.gid out of range 4294967295"),
-    ("{ path = 'a', uid = 1, gid = 1, control = 1 }", "wrong socket.control"),
+    (
+        "{ path = 'a', uid = 1, gid = 4294967295 }",
+        "socket.gid out of range 4294967295",
+    ),
+    (
+        "{ path = 'a', uid = 1, gid = 1, control = 1 }",
+        "wrong socket.control",
+    ),
     ("{ path = 1, zip = 1, mode = 2 }", "unknown mode"),
     ("{ path = 'a', uid = 1, gid = 1 }, 5, {}", "wrong socket"),
     (
@@ -110,7 +125,10 @@ const SOCKETS: &[(&str, &str)] = &[
          { path = 'b', uid = 3, gid = 1 }, { path = 'a', uid = 4, gid = 1 }",
         "socket 2 has an earlier path",
     ),
-    ("{ path = 'a', uid = 1, gid = 1 }, { path = 'a', uid = 2 }", "missing socket.gid"),
+    (
+        "{ path = 'a', uid = 1, gid = 1 }, { path = 'a', uid = 2 }",
+        "missing socket.gid",
+    ),
 ];
 
 /// The options of a file that is accepted.
@@ -184,7 +202,12 @@ fn example_is_read(rt: HostRuntime) {
     names(
         &rt,
         &options,
-        [Some("munge.key"), Some("munge.seed"), Some("passwd"), Some("group")],
+        [
+            Some("munge.key"),
+            Some("munge.seed"),
+            Some("passwd"),
+            Some("group"),
+        ],
     );
     numbers(&rt, &options, [3600, 300, 300, 60, 2, 64]);
     assert!(rt; options.settings().addr == [0, 0, 0, 0]);
@@ -210,7 +233,13 @@ fn example_of_the_documents_is_read(rt: HostRuntime) {
     let options = accepted(&rt, rt.alloc(), administrator::FILE.as_bytes());
     numbers(&rt, &options, [3600, 300, 300, 60, 4, 64]);
     assert!(rt; options.settings().addr == [192, 0, 2, 7]);
-    socket(&rt, &options, 0, "/run/munged/www-data.socket", who(33, 33, false));
+    socket(
+        &rt,
+        &options,
+        0,
+        "/run/munged/www-data.socket",
+        who(33, 33, false),
+    );
     socket(&rt, &options, 1, "/run/munged/root.socket", who(0, 0, true));
 }
 
@@ -239,9 +268,19 @@ fn refusals_as_values(rt: HostRuntime) -> Result<(), Fail> {
     file.push(b' ')?;
     refused_so(&rt, alloc, &file, OptionRefused::TooLong(65537));
     refused_so(&rt, alloc, b"key = ", OptionRefused::NotToml);
-    refused_so(&rt, alloc, b"key = \"k\"", OptionRefused::Missing(Key::Socket));
+    refused_so(
+        &rt,
+        alloc,
+        b"key = \"k\"",
+        OptionRefused::Missing(Key::Socket),
+    );
     let file = format!(in alloc; "skew = 301\n{EXAMPLE}")?;
-    refused_so(&rt, alloc, file.as_bytes(), OptionRefused::Range(Key::Skew, 301));
+    refused_so(
+        &rt,
+        alloc,
+        file.as_bytes(),
+        OptionRefused::Range(Key::Skew, 301),
+    );
     let file = format!(in alloc; "zip = 1\n{EXAMPLE}")?;
     match Options::read(alloc, file.as_bytes()) {
         Err(OptionRefused::Unknown(name)) => assert!(rt; name.text() == "zip"),
@@ -262,6 +301,11 @@ fn sixty_four_sockets(rt: HostRuntime) -> Result<(), Fail> {
     assert!(rt; options.sockets().len() == 64);
     socket(&rt, &options, 63, "s63", who(63, 1, false));
     file.push_str("[[socket]]\n")?;
-    refused_so(&rt, alloc, file.as_bytes(), OptionRefused::Range(Key::Socket, 65));
+    refused_so(
+        &rt,
+        alloc,
+        file.as_bytes(),
+        OptionRefused::Range(Key::Socket, 65),
+    );
     Ok(())
 }

@@ -2,7 +2,8 @@
 //! it is that very text.
 
 /// The text of docs/examples/munged.toml.
-pub(super) const FILE: &str = r#"# Options of munged. The file is TOML; a key that is not known is refused.
+pub(super) const FILE: &str =
+    r#"# Options of munged. The file is TOML; a key that is not known is refused.
 # A path that does not begin with / goes from the folder that munged is started in.
 
 # The key file, 32 to 1024 bytes, the same on every host whose credentials are to be opened here.
