@@ -1,5 +1,5 @@
-//! The option file for an administrator that the documents have. `tools/option-example` says whether
-//! it is that very text.
+//! The option file for an administrator that the documents have. `tools/option-example` says
+//! whether it is that very text.
 
 /// The text of docs/examples/munged.toml.
 pub(super) const FILE: &str =
