@@ -1,3 +1,4 @@
+pub mod AddressLemmas
 pub mod Lists
 pub mod RuleLemmas
 pub mod SocketLemmas

@@ -1,6 +1,6 @@
 -- An IPv4 address, as four decimal numbers between dots.
-use Rattle.std.specs.Prelude.{ℕ, Bool, ◌+◌, ◌-◌, ◌*◌, ◌&&◌, nat_eq, nat_lt, nat_le, if◌then◌else◌, List, [], ◌∷◌, length, Option, Some, None, option_and_then}
-use Rattle.std.specs.List.{position_or_len, before_first, after_first}
+use Rattle.std.specs.Prelude.{ℕ, Bool, ◌+◌, ◌-◌, ◌*◌, ◌&&◌, nat_eq, nat_le, if◌then◌else◌, List, [], ◌∷◌, Option, Some, None, option_and_then}
+use Rattle.std.specs.List.{slice_split}
 use Rattle.std.specs.Char.{is_ascii_digit}
 
 -- the byte of this value, if there is one
@@ -23,19 +23,18 @@ octet_of _ = None
 abbrev pub is_dot : ℕ → Bool
 is_dot character = nat_eq character 46
 
--- what stands before the first dot, and what behind it, if there is one
-abbrev pub cut_of : List ℕ → Option (List ℕ × List ℕ)
-cut_of text =
-    (if nat_lt (position_or_len is_dot text) (length text)
-    then Some (before_first is_dot text, after_first is_dot text) else None)
-
--- the four bytes whose numbers stand between three dots
-abbrev pub address_of : List ℕ → Option (List ℕ)
-address_of text =
-    option_and_then (λ (first : List ℕ × List ℕ).
-    option_and_then (λ (second : List ℕ × List ℕ).
-    option_and_then (λ (third : List ℕ × List ℕ).
+-- the four bytes of an address, if each of its numbers spells one
+abbrev pub four_of : (first second third fourth : Option ℕ) → Option (List ℕ)
+four_of first second third fourth =
     option_and_then (λ a. option_and_then (λ b. option_and_then (λ c. option_and_then (λ d.
-    Some (a ∷ b ∷ c ∷ d ∷ []))
-    (octet_of third.1)) (octet_of third.0)) (octet_of second.0)) (octet_of first.0))
-    (cut_of second.1)) (cut_of first.1)) (cut_of text)
+    Some (a ∷ b ∷ c ∷ d ∷ [])) fourth) third) second) first
+
+-- the address of four parts, and of no other number of parts
+abbrev pub address_in : List (List ℕ) → Option (List ℕ)
+address_in (first ∷ second ∷ third ∷ fourth ∷ []) =
+    four_of (octet_of first) (octet_of second) (octet_of third) (octet_of fourth)
+address_in _ = None
+
+-- the address that a text spells: four numbers, with a dot between each two
+abbrev pub address_of : List ℕ → Option (List ℕ)
+address_of text = address_in (slice_split is_dot text)

@@ -1,5 +1,6 @@
 pub mod Accepted
 pub mod Address
+pub mod AddressCuts
 pub mod Configuration
 pub mod Gives
 pub mod KeyNames

@@ -1,7 +1,8 @@
 //! An IPv4 address, as four decimal numbers between dots.
 
 ghost use Rattle.std.specs.Prelude.{◌≡◌, option_map};
-ghost use Rattle.option_file.specs.Address.{number_of, octet_of, cut_of, address_of};
+ghost use Rattle.option_file.specs.Address.{address_of, number_of, octet_of};
+ghost use Rattle.option_file.specs.AddressCuts.{address_by_cuts, cut_of};
 
 /// The byte that three digits spell, if there is one.
 fn number(hundreds: u8, tens: u8, ones: u8) -> Option<u8>
@@ -37,9 +38,9 @@ fn cut(text: &str) -> Option<(&str, &str)>
     text.split_once('.')
 }
 
-/// The address that a text spells, if it spells one.
-pub(crate) fn address(text: &str) -> Option<[u8; 4]>
-    ensures { result ≡ address_of text.now }
+/// The address that three cuts at the first dot find.
+fn by_cuts(text: &str) -> Option<[u8; 4]>
+    ensures { result ≡ address_by_cuts text.now }
 {
     let (first, rest) = cut(text)?;
     let (second, rest) = cut(rest)?;
@@ -49,4 +50,11 @@ pub(crate) fn address(text: &str) -> Option<[u8; 4]>
     let third = octet(third.as_bytes())?;
     let fourth = octet(fourth.as_bytes())?;
     Some([first, second, third, fourth])
+}
+
+/// The address that a text spells, if it spells one: four numbers with a dot between each two.
+pub(crate) fn address(text: &str) -> Option<[u8; 4]>
+    ensures { result ≡ address_of text.now }
+{
+    by_cuts(text)
 }
