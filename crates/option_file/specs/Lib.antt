@@ -1,0 +1,14 @@
+pub mod Accepted
+pub mod Address
+pub mod AddressCuts
+pub mod Configuration
+pub mod Gives
+pub mod KeyNames
+pub mod KnownKeys
+pub mod Limits
+pub mod Parts
+pub mod RefusedText
+pub mod Refusals
+pub mod Rules
+pub mod Sockets
+pub mod Values
