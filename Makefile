@@ -37,7 +37,7 @@ uninstall:
 
 check:
 	@mkdir -p build; failed=0; \
-	for tool in "crate-tree --check" "definitions --check" "vectors --check" check-links; do \
+	for tool in "crate-tree --check" "definitions --check" "vectors --check" option-example check-links; do \
 	    tools/$$tool >build/check.log || { failed=1; cat build/check.log; }; \
 	done; \
 	exit $$failed

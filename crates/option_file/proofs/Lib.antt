@@ -1,4 +1,5 @@
 pub mod AddressLemmas
+pub mod FirstUnknownLemmas
 pub mod Lists
 pub mod RuleLemmas
 pub mod SocketLemmas

@@ -2,6 +2,7 @@ pub mod Accepted
 pub mod Address
 pub mod AddressCuts
 pub mod Configuration
+pub mod FirstUnknown
 pub mod Gives
 pub mod KeyNames
 pub mod KnownKeys

@@ -6,9 +6,10 @@ use crate::{Key, Name};
 use std::error::Error;
 use std::fmt;
 
-/// The first cause for which an option file is refused. Their order is that of this list; within a
-/// table an unknown key comes first, and then the keys come in the order of `Key`, each with all
-/// that is asked of it.
+/// The first cause for which an option file is refused, in this order: it is too long; it is no
+/// TOML; its own table has an unknown key; its keys, in the order of `Key`, each with all that is
+/// asked of it; the sockets one after the other, each with an unknown key first and then its keys;
+/// and a path that two of them have.
 #[derive(Debug, Drop, PartialEq, Eq)]
 pub enum OptionRefused {
     /// The file has this many bytes, which are more than 65,536.
