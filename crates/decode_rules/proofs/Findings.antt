@@ -13,7 +13,7 @@ pub record IsOpenedOnce (key text : List ℕ) : Type 0 where
   pub not_both : (rule : ℕ) (status : Status) (credential : Credential) → Refuses key text rule status → Opens key text credential → ⊥
   pub credential_one : (first second : Credential) → Opens key text first → Opens key text second → first ≡ second
 
-pub finding_one : (terms : Terms) (moment : ℕ) (text : List ℕ) (first second : Finding) → IsOpenedOnce terms.key text
+pub finding_one : (terms : Terms) (moment : ℕ) (text : List ℕ) (first second : Finding) → IsOpenedOnce terms.files.key text
     → Finds terms moment text first → Finds terms moment text second → first ≡ second
 finding_one terms moment text first second once (unopened {rule = rule} {status = broken} refused) (unopened {rule = rule'} {status = broken'} refused') =
     let same_rule = once.rule_one rule rule' broken broken' refused refused' in

@@ -24,7 +24,7 @@ refused_of_barred terms moment text credential (Some line) reply finds barred =
     record { rule = line.0; status = line.1; credential = shown_by line.0 credential; finds = finds; reply_is = barred }
 
 pub prepared_of_judged : (terms : Terms) (moment : ℕ) (text : List ℕ) (credential : Credential) (made : Prepared)
-    → Opens terms.key text credential → IsJudged terms moment credential made → IsPrepared terms moment text made
+    → Opens terms.files.key text credential → IsJudged terms moment credential made → IsPrepared terms moment text made
 prepared_of_judged terms moment text credential (prepared.Refused reply) opens judged =
     refused_of_barred terms moment text credential (caller_breaks terms moment credential) reply (opened credential opens) judged
 prepared_of_judged terms moment text credential (prepared.Ready ready) opens judged =

@@ -1,9 +1,10 @@
 -- The decode rules 10 to 12, which look at the caller and the moment.
-use Rattle.std.specs.Prelude.{ℕ, ◌+◌, ◌||◌, nat_eq, nat_le, List, [], ◌∷◌}
+use Rattle.std.specs.Prelude.{ℕ, ◌+◌, Bool, ◌||◌, nat_eq, nat_le, List, [], ◌∷◌}
 use Rattle.std.specs.declared.option.Option.{Option}
 use Rattle.munge_types.specs.declared.status.Status.{Status}
 use Rattle.munge_types.specs.declared.status.Status.TheVariants as status
 use Rattle.cred_inner.specs.InnerPart.{Content, any}
+use Rattle.group_map.specs.Membership.{is_member}
 use Rattle.cred_open.specs.OpeningRules.{unless}
 use Rattle.decode_rules.specs.Terms.{Terms}
 
@@ -12,10 +13,16 @@ abbrev pub uid_rule : Terms → Content → Option Status
 uid_rule terms content =
     unless (nat_eq content.for_uid any || nat_eq content.for_uid terms.who.uid) status.Unauthorized
 
--- 11: anyone may open it, or this caller's GID; no groups are known
+-- the caller is of this GID, or a member of it
+abbrev pub belongs_to : Terms → (gid : ℕ) → Bool
+belongs_to terms gid =
+    nat_eq gid terms.who.gid
+    || is_member terms.files.passwd terms.files.group terms.who.uid gid
+
+-- 11: anyone may open it, or this caller's GID, or one that the caller is a member of
 abbrev pub gid_rule : Terms → Content → Option Status
 gid_rule terms content =
-    unless (nat_eq content.for_gid any || nat_eq content.for_gid terms.who.gid) status.Unauthorized
+    unless (nat_eq content.for_gid any || belongs_to terms content.for_gid) status.Unauthorized
 
 -- 12: it was sealed no later than the skew after the moment, in seconds since 1970
 abbrev pub time_rule : Terms → (moment : ℕ) → Content → Option Status

@@ -34,8 +34,8 @@ finding_of terms moment credential = found_by (caller_breaks terms moment creden
 -- what a text comes to on these terms, at this moment
 pub data Finds (terms : Terms) (moment : ℕ) (text : List ℕ) : Finding → Type 0 where
   -- it breaks one of the rules 1 to 9
-  unopened : {rule : ℕ} {status : Status} → Refuses terms.key text rule status
+  unopened : {rule : ℕ} {status : Status} → Refuses terms.files.key text rule status
       → Finds terms moment text (Refused rule status None)
   -- it is a credential
-  opened : (credential : Credential) → Opens terms.key text credential
+  opened : (credential : Credential) → Opens terms.files.key text credential
       → Finds terms moment text (finding_of terms moment credential)

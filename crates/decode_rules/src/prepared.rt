@@ -1,14 +1,13 @@
 //! What a text comes to before the history is asked.
 
-ghost use Rattle.std.specs.Prelude.{◌≡◌, ℕ, List, IfOk};
-ghost use Rattle.subkeys.specs.Subkeys.{IsOf};
+ghost use Rattle.std.specs.Prelude.{◌≡◌, IfOk};
 ghost use Rattle.cred_inner.specs.Inner.{content_of};
 ghost use Rattle.cred_open.specs.OpeningRules.{first_broken};
-ghost use Rattle.decode_rules.specs.CallerRules.{caller_rules};
+ghost use Rattle.decode_rules.specs.CallerRules.{belongs_to, caller_rules};
 ghost use Rattle.decode_rules.specs.DecodeReply.{refused_answer};
 ghost use Rattle.decode_rules.specs.Finding.{shown_by};
 ghost use Rattle.decode_rules.specs.Prepared.{IsJudged, IsPrepared, line_of};
-ghost use Rattle.decode_rules.specs.Terms.{terms_of};
+ghost use Rattle.decode_rules.specs.Terms.{IsMadeOf, WorldFiles, terms_of};
 
 use crate::reply::{refusal, showing, unsaid};
 use crate::{Ready, Reply, World};
@@ -38,9 +37,9 @@ pub fn prepare(
     moment: u32,
     text: &[u8],
 ) -> Result<Prepared, NoMemory>
-    // For each key that the subkeys are of.
-    ensures { (key : List ℕ) → IsOf world.now.subkeys key
-        → IfOk result (IsPrepared (terms_of world.now who key) moment text.now) }
+    // For all files that the world is made of.
+    ensures { (files : WorldFiles) → IsMadeOf world.now files
+        → IfOk result (IsPrepared (terms_of world.now who files) moment text.now) }
 {
     match open_text(alloc, &world.subkeys, text) {
         Ok(opened) => {
@@ -63,8 +62,8 @@ fn judge(
     moment: u32,
     opened: &Opened,
 ) -> Result<Prepared, NoMemory>
-    ensures { (key : List ℕ)
-        → IfOk result (IsJudged (terms_of world.now who key) moment opened.now) }
+    ensures { (files : WorldFiles) → IsMadeOf world.now files
+        → IfOk result (IsJudged (terms_of world.now who files) moment opened.now) }
 {
     match broken_rule(world, who, moment, &opened.inner()) {
         None => {
@@ -94,8 +93,8 @@ fn barred(alloc: Global, broken: OuterRefused, opened: &Opened) -> Result<Reply,
 
 /// The first of the rules 10 to 12 that the credential breaks.
 fn broken_rule(world: &World, who: Identity, moment: u32, inner: &Inner<'_>) -> Option<OuterRefused>
-    ensures { (key : List ℕ) → line_of result
-        ≡ first_broken (caller_rules (terms_of world.now who key) moment (content_of inner.now)) }
+    ensures { (files : WorldFiles) → IsMadeOf world.now files → line_of result
+        ≡ first_broken (caller_rules (terms_of world.now who files) moment (content_of inner.now)) }
 {
     if inner.for_uid != ANY && inner.for_uid != who.uid {
         return Some(OuterRefused {
@@ -103,7 +102,7 @@ fn broken_rule(world: &World, who: Identity, moment: u32, inner: &Inner<'_>) -> 
             status: Status::Unauthorized,
         });
     }
-    if inner.for_gid != ANY && inner.for_gid != who.gid {
+    if inner.for_gid != ANY && !belongs_to(world, who, inner.for_gid) {
         return Some(OuterRefused {
             rule: Rule::GID,
             status: Status::Unauthorized,
@@ -116,4 +115,12 @@ fn broken_rule(world: &World, who: Identity, moment: u32, inner: &Inner<'_>) -> 
         });
     }
     None
+}
+
+/// The caller is of this GID, or a member of it.
+fn belongs_to(world: &World, who: Identity, gid: u32) -> bool
+    ensures { (files : WorldFiles) → IsMadeOf world.now files
+        → result ≡ belongs_to (terms_of world.now who files) gid }
+{
+    gid == who.gid || world.groups.member(who.uid, gid)
 }

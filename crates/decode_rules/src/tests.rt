@@ -3,6 +3,7 @@
 //! hand from the layout of the messages.
 
 use crate::{Prepared, Reply, World, complete, prepare};
+use group_map::GroupMap;
 use munge_types::{Identity, Settings, Status, Verdict};
 use std::alloc::Global;
 use std::process::Abort;
@@ -29,6 +30,7 @@ fn usual_world() -> Result<World, Fail> {
     Ok(World {
         subkeys: Subkeys::of(&[0; 32])?,
         settings: Settings::usual(),
+        groups: GroupMap::none(),
     })
 }
 

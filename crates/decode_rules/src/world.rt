@@ -1,5 +1,6 @@
-//! What credentials are sealed and opened with.
+//! What credentials are sealed and opened with, and who is in which group.
 
+use group_map::GroupMap;
 use munge_types::Settings;
 use subkeys::Subkeys;
 
@@ -10,4 +11,6 @@ pub struct World {
     pub subkeys: Subkeys,
     /// The times, in seconds, that sealing and opening go by, and the host's address.
     pub settings: Settings,
+    /// Which users are members of which groups.
+    pub groups: GroupMap,
 }

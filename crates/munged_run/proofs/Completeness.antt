@@ -15,6 +15,7 @@ use Rattle.session_core.specs.Things.{CameToEnd, Outside, things_of}
 use Rattle.session_core.specs.declared.end.HowEnded.{HowEnded}
 use Rattle.session_core.specs.declared.end.HowEnded.TheVariants as how
 use Rattle.munged_run.specs.CommandLine.{AskedSession, command_of}
+use Rattle.munged_run.specs.CommandLine as command
 use Rattle.munged_run.specs.Ending.{Ending, after_session, status_of}
 use Rattle.munged_run.specs.Ending as ending
 use Rattle.munged_run.specs.Faults.{FaultOf}
@@ -265,7 +266,7 @@ complete_session laws files asked untouched before after ended whole sound (answ
 pub complete_run : FrameLaws → (given : Given) (asked : AskedSession) (untouched : Type 0)
     (before after : Outside) (ended : Ending) (number faults faults' : ℕ)
     (Reads Writes Clocks : Type 0) (whole : WholeRequests given before.input.left)
-    → command_of given.words ≡ Some asked → number ≡ status_of ended
+    → command_of given.words ≡ Some (command.session asked) → number ≡ status_of ended
     → FaultOf ended faults faults' → (ended ≡ ending.input_failed → Reads)
     → (ended ≡ ending.output_failed → Writes) → (ended ≡ ending.clock_failed → Clocks)
     → ¬ Rose faults faults' → ¬ Reads → ¬ Writes → ¬ Clocks

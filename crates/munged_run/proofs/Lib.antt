@@ -1,3 +1,4 @@
+pub mod CheckLemmas
 pub mod Completeness
 pub mod NumberLemmas
 pub mod RunLemmas

@@ -3,17 +3,16 @@ use Rattle.std.proofs.Common.{◌≡◌, ◌≢◌, ◌⊎◌, ℕ, ◌≤◌, i
 use Rattle.munge_types.specs.StandsFor.{Remembered}
 use Rattle.munge_types.specs.declared.identity.Identity.{Identity}
 use Rattle.munge_types.specs.declared.settings.Settings.{Settings}
-use Rattle.byte_io.specs.Counts.{Rose}
 use Rattle.session_core.specs.SessionRan.{SessionRan}
 use Rattle.session_core.specs.Things.{Outside, Things, things_of}
 use Rattle.session_core.specs.declared.end.SessionEnd.{SessionEnd}
 use Rattle.munged_run.specs.CommandLine.{AskedSession, caller_of}
-use Rattle.munged_run.specs.Ending.{Ending, after_session, status_of}
-use Rattle.munged_run.specs.Ending as ending
-use Rattle.munged_run.specs.Faults.{FaultOf}
+use Rattle.munged_run.specs.Ending.{Ending, after_session}
 use Rattle.munged_run.specs.KeyFile.{HoldsKey, IsKey}
 use Rattle.munged_run.specs.Program.{Answered, IsUsual, nothing_remembered}
-use Rattle.munged_run.specs.SeedFile.{IsSeedOf}
+use Rattle.munged_run.specs.SeedFile.{GivesNoSeed, IsSeedOf}
+use Rattle.munged_run.specs.SeedFile as seeds
+use Rattle.munged_run.specs.Unread.{IsUnread}
 
 -- bytes of another size are no key
 pub not_a_key : (bytes : List ℕ) → ¬ ((32 ≤ length bytes) × (length bytes ≤ 1024)) → ¬ IsKey bytes
@@ -36,7 +35,11 @@ pub session_answered : (files : Option (List (List ℕ × List ℕ))) (asked : A
     → HoldsKey files asked.key_file key → IsSeedOf files asked.seed_file seed → IsUsual settings
     → who ≡ caller_of asked → old.floor ≡ 0 → old.pairs ≡ []
     → SessionRan (record {
-      terms = record { key = key; settings = settings; who = who };
+      terms = record {
+        files = record { key = key; passwd = []; group = [] };
+        settings = settings;
+        who = who;
+      };
       seed = seed;
       base = [];
     }) end (things_of before old) (things_of after new)
@@ -52,14 +55,29 @@ session_answered files asked before after how key seed settings who end old new 
       end = end;
       replay = new;
       ran = subst (λ w. SessionRan (record {
-        terms = record { key = key; settings = settings; who = w };
+        terms = record {
+          files = record { key = key; passwd = []; group = [] };
+          settings = settings;
+          who = w;
+        };
         seed = seed;
         base = [];
       }) end (things_of before nothing_remembered) (things_of after new)) who_is
           (subst (λ s. SessionRan (record {
-            terms = record { key = key; settings = settings; who = who };
+            terms = record {
+              files = record { key = key; passwd = []; group = [] };
+              settings = settings;
+              who = who;
+            };
             seed = seed;
             base = [];
           }) end (things_of before s) (things_of after new)) (new_is old floor pairs) ran);
       how_is = how_is;
     }
+
+-- how the program ends without the bytes of a seed file that is named
+pub seed_unread : (files : Option (List (List ℕ × List ℕ))) (named : Option (List ℕ))
+    (name : List ℕ) (how : Ending) → named ≡ Some name → IsUnread name how
+    → GivesNoSeed files named how
+seed_unread files named name how is (inl fault) = seeds.unread name is fault
+seed_unread files named name how is (inr none) = seeds.no_memory name is none

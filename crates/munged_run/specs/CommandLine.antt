@@ -1,5 +1,5 @@
 -- What the words of a command line ask for, without the program's name.
-use Rattle.std.specs.Prelude.{ℕ, Bool, ◌&&◌, false, nat_lt, nat_le, bytes_eq, codes, if◌then◌else◌, List, [], ◌∷◌, length}
+use Rattle.std.specs.Prelude.{ℕ, Bool, ◌&&◌, false, nat_lt, nat_le, bytes_eq, codes, if◌then◌else◌, List, [], ◌∷◌, length, option_map}
 use Rattle.std.specs.List.{list_all}
 use Rattle.std.specs.Str.Parse.{digits_value}
 use Rattle.std.specs.declared.option.Option.{Option}
@@ -17,6 +17,11 @@ pub record AskedSession : Type 0 where
 -- its caller, who has no control
 abbrev pub caller_of : AskedSession → Identity
 caller_of asked = record { uid = asked.uid; gid = asked.gid; control = false }
+
+-- a session, or that the option file of this path is checked
+pub data Command : Type 0 where
+  session : AskedSession → Command
+  check : (config : List ℕ) → Command
 
 -- an ASCII digit
 abbrev pub is_digit : ℕ → Bool
@@ -52,10 +57,16 @@ session_of name key_file uid gid seed_file =
     if bytes_eq name (codes "session")
     then session_with key_file (id_of uid) (id_of gid) seed_file else None
 
--- what the words ask for, if it is something: `session KEYFILE UID GID`, or
--- `session KEYFILE UID GID SEEDFILE`
-abbrev pub command_of : List (List ℕ) → Option AskedSession
-command_of (name ∷ key_file ∷ uid ∷ gid ∷ []) = session_of name key_file uid gid None
+-- what a command of this name asks for, if it is `check`
+abbrev pub check_of : (name config : List ℕ) → Option Command
+check_of name config = if bytes_eq name (codes "check") then Some (check config) else None
+
+-- what the words ask for, if it is something: `session KEYFILE UID GID`,
+-- `session KEYFILE UID GID SEEDFILE`, or `check CONFIG`
+abbrev pub command_of : List (List ℕ) → Option Command
+command_of (name ∷ config ∷ []) = check_of name config
+command_of (name ∷ key_file ∷ uid ∷ gid ∷ []) =
+    option_map session (session_of name key_file uid gid None)
 command_of (name ∷ key_file ∷ uid ∷ gid ∷ seed_file ∷ []) =
-    session_of name key_file uid gid (Some seed_file)
+    option_map session (session_of name key_file uid gid (Some seed_file))
 command_of words = None

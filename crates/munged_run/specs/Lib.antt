@@ -1,11 +1,14 @@
+pub mod Check
 pub mod CommandLine
 pub mod Ending
 pub mod EndingTold
 pub mod Faults
 pub mod KeyFile
 pub mod Line
+pub mod MapFile
 pub mod Program
 pub mod SeedFile
 pub mod SessionCommand
 pub mod Status
+pub mod Unread
 pub mod WholeRequests

@@ -1,14 +1,15 @@
 -- The text of a line on the error stream.
 use Rattle.std.specs.Prelude.{ℕ, List, [], ◌++◌}
-use Rattle.std.specs.Fmt.{decimal}
-use Rattle.std.specs.declared.option.Option.{Option}
-use Rattle.std.specs.declared.option.Option.TheVariants.{None, Some}
+use Rattle.std.specs.Fmt.{decimal, signed_decimal}
 use Rattle.munged_run.specs.declared.line.Line.{Line}
+use Rattle.munged_run.specs.declared.line.Number.{Number}
+use Rattle.munged_run.specs.declared.line.Number.TheVariants.{Nothing, Count, Value}
 
 -- a number in decimal, if there is one
-abbrev pub number_text : Option ℕ → List ℕ
-number_text None = []
-number_text (Some number) = decimal number
+abbrev pub number_text : Number → List ℕ
+number_text Nothing = []
+number_text (Count number) = decimal number
+number_text (Value number) = signed_decimal number
 
 -- its parts, one behind the other
 abbrev pub text_of : Line → List ℕ

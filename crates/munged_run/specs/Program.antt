@@ -8,8 +8,10 @@ use Rattle.session_core.specs.Session.{Session}
 use Rattle.session_core.specs.SessionRan.{SessionRan}
 use Rattle.session_core.specs.Things.{Outside, things_of}
 use Rattle.session_core.specs.declared.end.SessionEnd.{SessionEnd}
+use Rattle.munged_run.specs.Check.{CheckCame}
 use Rattle.munged_run.specs.CommandLine.{AskedSession, caller_of, command_of}
-use Rattle.munged_run.specs.Ending.{Ending, after_session, line_of, status_of}
+use Rattle.munged_run.specs.CommandLine as command
+use Rattle.munged_run.specs.Ending.{Ending, after_session}
 use Rattle.munged_run.specs.Ending as ending
 use Rattle.munged_run.specs.KeyFile.{GivesNoKey, HoldsKey}
 use Rattle.munged_run.specs.SeedFile.{GivesNoSeed, IsSeedOf}
@@ -21,13 +23,17 @@ pub record IsUsual (settings : Settings) : Type 0 where
   pub skew : settings.skew ≡ 300
   pub addr : settings.addr ≡ 0 ∷ 0 ∷ 0 ∷ 0 ∷ []
 
--- the session that was asked for, under this key, with these settings and this seed, from the empty
--- history on
+-- the session that was asked for, under this key, with these settings and this seed, without groups,
+-- from the empty history on
 abbrev pub session_under : AskedSession → (key : List ℕ) → Settings → (seed : Option (List ℕ))
     → Session
 session_under asked key settings seed =
     record {
-      terms = record { key = key; settings = settings; who = caller_of asked };
+      terms = record {
+        files = record { key = key; passwd = []; group = [] };
+        settings = settings;
+        who = caller_of asked;
+      };
       seed = seed;
       base = [];
     }
@@ -74,22 +80,25 @@ pub data SessionCame (files : Option (List (List ℕ × List ℕ))) (asked : Ask
   answered : Answered files asked before after how
       → SessionCame files asked untouched before after how
 
+-- what of the outside is as it was: the input and the clock, and the output
+pub record Same : Type 1 where
+  pub idle : Type 0
+  pub silent : Type 0
+
+abbrev pub same_of : (idle silent : Type 0) → Same
+same_of idle silent = record { idle = idle; silent = silent }
+
 -- What the program comes to.
-pub data ComesTo (given : Given) (untouched : Type 0) (before after : Outside) (how : Ending)
+pub data ComesTo (given : Given) (same : Same) (before after : Outside) (how : Ending)
     : Type 0 where
   -- the words ask for nothing
-  no_command : command_of given.words ≡ None → untouched → how ≡ ending.no_command
-      → ComesTo given untouched before after how
+  no_command : command_of given.words ≡ None → same.idle → same.silent → how ≡ ending.no_command
+      → ComesTo given same before after how
   -- they ask for a session
-  session : (asked : AskedSession) → command_of given.words ≡ Some asked
-      → SessionCame given.files asked untouched before after how
-      → ComesTo given untouched before after how
-
--- The program came to this, ended with this number as its status, and said so in one line on the
--- error stream.
-pub record Ran (given : Given) (untouched : Type 0) (before after : Outside)
-    (Said : (line : List ℕ) → Type 0) (number : ℕ) : Type 0 where
-  pub how : Ending
-  pub comes_to : ComesTo given untouched before after how
-  pub number_is : number ≡ status_of how
-  pub says_so : Said (line_of how)
+  session : (asked : AskedSession) → command_of given.words ≡ Some (command.session asked)
+      → SessionCame given.files asked (same.idle × same.silent) before after how
+      → ComesTo given same before after how
+  -- they ask for a look at an option file
+  check : (config : List ℕ) → command_of given.words ≡ Some (command.check config) → same.idle
+      → CheckCame given.files config same.silent before.taken after.taken how
+      → ComesTo given same before after how

@@ -17,6 +17,10 @@ unread_file = 2
 abbrev pub bad_size : ℕ
 bad_size = 3
 
+-- the option file or a map is refused
+abbrev pub bad_options : ℕ
+bad_options = 4
+
 -- a read of the input failed
 abbrev pub failed_input : ℕ
 failed_input = 5

@@ -11,6 +11,7 @@ use Rattle.session_core.specs.Requests.{IsRequest, frames}
 use Rattle.session_core.specs.SessionRan.{request_limit}
 use Rattle.session_core.specs.Things.{Outside}
 use Rattle.munged_run.specs.CommandLine.{AskedSession, command_of}
+use Rattle.munged_run.specs.CommandLine as command
 use Rattle.munged_run.specs.KeyFile.{IsKey}
 use Rattle.munge_types.specs.declared.settings.Settings.{Settings}
 use Rattle.munged_run.specs.Program.{Given, IsUsual, session_under}
@@ -35,7 +36,7 @@ pub record WholeSession (files : Option (List (List ℕ × List ℕ))) (asked : 
 -- the words ask for such a session
 pub record WholeRequests (given : Given) (left : Option (List ℕ)) : Type 0 where
   pub asked : AskedSession
-  pub asked_for : command_of given.words ≡ Some asked
+  pub asked_for : command_of given.words ≡ Some (command.session asked)
   pub whole : WholeSession given.files asked left
 
 -- All of the input was read, and what was written is the replies to all requests, at the clock's next

@@ -3,8 +3,16 @@
 ghost use Rattle.std.specs.Prelude.{◌≡◌, map, option_map};
 ghost use Rattle.std.specs.List.{list_all};
 ghost use Rattle.std.specs.String.{string_bytes};
-ghost use Rattle.munged_run.specs.CommandLine.{caller_of, command_of, id_of, is_digit, is_numeral, session_of};
-ghost use Rattle.munged_run.specs.SessionCommand.{asked_told};
+ghost use Rattle.munged_run.specs.CommandLine.{
+  caller_of,
+  check_of,
+  command_of,
+  id_of,
+  is_digit,
+  is_numeral,
+  session_of,
+};
+ghost use Rattle.munged_run.specs.SessionCommand.{asked_told, command_told};
 
 use munge_types::Identity;
 
@@ -13,6 +21,15 @@ const MOST_DIGITS: usize = 20;
 
 /// The largest UID and GID of a caller.
 const LARGEST_ID: u32 = 4294967294;
+
+/// What the program is asked to do.
+#[derive(Clone, Copy, Debug, PartialEq, Eq)]
+pub enum Command<'a> {
+    /// To answer the requests of its input.
+    Session(SessionCommand<'a>),
+    /// To look over the option file of this path and the files that it names.
+    Check(&'a str),
+}
 
 /// A session under the key of a file, for a caller, with the seed of a file if one is named.
 #[derive(Clone, Copy, Debug, PartialEq, Eq)]
@@ -39,28 +56,39 @@ impl SessionCommand<'_> {
     }
 }
 
-/// What the words ask for, which do not hold the program's name: `session KEYFILE UID GID`, or
-/// `session KEYFILE UID GID SEEDFILE`.
-pub fn command_of_words(words: &[String]) -> Option<SessionCommand<'_>>
-    ensures { option_map asked_told result ≡ command_of (map string_bytes words.now) }
+/// What the words ask for, which do not hold the program's name: `session KEYFILE UID GID`,
+/// `session KEYFILE UID GID SEEDFILE`, or `check CONFIG`.
+pub fn command_of_words(words: &[String]) -> Option<Command<'_>>
+    ensures { option_map command_told result ≡ command_of (map string_bytes words.now) }
 {
     match words {
-        [name, key_file, uid, gid] => session_of_words(
+        [name, config] => check_of_words(name.as_str(), config.as_str()),
+        [name, key_file, uid, gid] => Some(Command::Session(session_of_words(
             name.as_str(),
             key_file.as_str(),
             uid.as_str(),
             gid.as_str(),
             None,
-        ),
-        [name, key_file, uid, gid, seed_file] => session_of_words(
+        )?)),
+        [name, key_file, uid, gid, seed_file] => Some(Command::Session(session_of_words(
             name.as_str(),
             key_file.as_str(),
             uid.as_str(),
             gid.as_str(),
             Some(seed_file.as_str()),
-        ),
+        )?)),
         _ => None,
     }
+}
+
+/// What a command of this name asks for, if it is `check`.
+fn check_of_words<'a>(name: &str, config: &'a str) -> Option<Command<'a>>
+    ensures { option_map command_told result ≡ check_of name.now config.now }
+{
+    if name != "check" {
+        return None;
+    }
+    Some(Command::Check(config))
 }
 
 /// What a command of this name asks for, if it is `session`.

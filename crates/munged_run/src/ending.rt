@@ -1,12 +1,21 @@
 //! How the program ends.
 
 ghost use Rattle.std.specs.Prelude.{◌≡◌};
-ghost use Rattle.munged_run.specs.Ending.{Says, after_session, errors_of, line_of, status_of};
+ghost use Rattle.munged_run.specs.Ending.{
+  Says,
+  after_session,
+  ending_by,
+  errors_of,
+  line_of,
+  options,
+  status_of,
+};
 ghost use Rattle.munged_run.specs.EndingTold.{ending_told};
 ghost use Rattle.munged_run.specs.Line.{text_of};
 
-use crate::line::{Line, write_line};
+use crate::line::{Line, Number, write_line};
 use byte_io::Sink;
+use option_file::OptionRefused;
 use session_core::HowEnded;
 
 /// How the program ends.
@@ -21,6 +30,12 @@ pub enum Ending<'a> {
     /// So many bytes were read of the key file or the seed file of this name: fewer than 32, or of a
     /// key file more than 1024.
     WrongSize(&'a str, u64),
+    /// The option file is refused; for want of memory it is not, but `NoMemory` is the end.
+    BadOptions(&'a OptionRefused),
+    /// This line of the passwd or group file of this name may not stand there, counted from 1.
+    BadLine(&'a str, u64),
+    /// So many bytes were read of the passwd or group file of this name, which are too many.
+    TooLong(&'a str, u64),
     /// A read of the input failed.
     InputFailed,
     /// A write to the output failed.
@@ -51,6 +66,16 @@ impl<'a> Ending<'a> {
         }
     }
 
+    /// How the program ends where an option file is refused.
+    pub fn by(refused: &'a OptionRefused) -> Ending<'a>
+        ensures { ending_told result ≡ ending_by refused.now }
+    {
+        match refused {
+            OptionRefused::NoMemory => Ending::NoMemory,
+            _ => Ending::BadOptions(refused),
+        }
+    }
+
     /// The status of the process.
     pub fn status(self) -> u8
         ensures { result ≡ status_of (ending_told self.entry) }
@@ -60,6 +85,9 @@ impl<'a> Ending<'a> {
             Ending::NoCommand => 1,
             Ending::Unread(_) => 2,
             Ending::WrongSize(_, _) => 3,
+            Ending::BadOptions(_) => 4,
+            Ending::BadLine(_, _) => 4,
+            Ending::TooLong(_, _) => 4,
             Ending::InputFailed => 5,
             Ending::OutputFailed => 6,
             Ending::ClockFailed => 7,
@@ -93,15 +121,30 @@ impl<'a> Ending<'a> {
             Ending::WrongSize(name, size) => Line {
                 name,
                 middle: " has ",
-                number: Some(size),
+                number: Number::Count(size),
                 back: " bytes\n",
+                ..Line::of("munged: ")
+            },
+            Ending::BadOptions(refused) => options_line(refused),
+            Ending::BadLine(name, line) => Line {
+                name,
+                middle: ": bad line ",
+                number: Number::Count(line),
+                back: "\n",
+                ..Line::of("munged: ")
+            },
+            Ending::TooLong(name, size) => Line {
+                name,
+                middle: ": too long ",
+                number: Number::Count(size),
+                back: "\n",
                 ..Line::of("munged: ")
             },
             Ending::InputFailed => Line::of("munged: input failed\n"),
             Ending::OutputFailed => Line::of("munged: output failed\n"),
             Ending::ClockFailed => Line::of("munged: clock failed\n"),
             Ending::Malformed(place) => Line {
-                number: Some(place),
+                number: Number::Count(place),
                 back: "\n",
                 ..Line::of("munged: malformed frame at ")
             },
@@ -109,4 +152,57 @@ impl<'a> Ending<'a> {
             Ending::Budget => Line::of("munged: 1048576 requests answered\n"),
         }
     }
+}
+
+/// The line that says why an option file is refused.
+fn options_line(refused: &OptionRefused) -> Line<'_>
+    ensures { text_of result ≡ line_of (options refused.now) }
+{
+    match refused {
+        OptionRefused::TooLong(size) => Line {
+            number: Number::Count(*size),
+            back: "\n",
+            ..Line::of("munged: options: too long ")
+        },
+        OptionRefused::NotToml => Line::of("munged: options: not toml\n"),
+        OptionRefused::Unknown(name) => Line {
+            name: name.text(),
+            back: "\n",
+            ..Line::of("munged: options: unknown ")
+        },
+        OptionRefused::Missing(key) => Line {
+            name: key.name(),
+            back: "\n",
+            ..Line::of("munged: options: missing ")
+        },
+        OptionRefused::Wrong(key) => Line {
+            name: key.name(),
+            back: "\n",
+            ..Line::of("munged: options: wrong ")
+        },
+        OptionRefused::Range(key, number) => Line {
+            name: key.name(),
+            middle: " out of range ",
+            number: Number::Value(*number),
+            back: "\n",
+            ..Line::of("munged: options: ")
+        },
+        OptionRefused::Twice(at) => Line {
+            number: Number::Count(u64::from(*at)),
+            back: " has an earlier path\n",
+            ..Line::of("munged: options: socket ")
+        },
+        OptionRefused::NoMemory => Line::of("munged: options: no memory\n"),
+    }
+}
+
+/// Says how the program ends, and returns the status of the process.
+pub fn end<E: Sink>(err: &mut E, ending: Ending<'_>) -> u8
+    ensures status { result ≡ status_of (ending_told ending.entry) }
+    ensures says { Says (errors_of (E.taken err.old) (E.write_faults err.old))
+        (errors_of (E.taken err.new) (E.write_faults err.new))
+        (line_of (ending_told ending.entry)) }
+{
+    ending.say_on(err);
+    ending.status()
 }

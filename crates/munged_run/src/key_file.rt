@@ -6,7 +6,8 @@ ghost use Rattle.munged_run.specs.Faults.{CountsFault};
 ghost use Rattle.munged_run.specs.KeyFile.{GivesNoKey, IsKeyOf};
 
 use crate::ending::Ending;
-use byte_io::{FileFail, Files};
+use crate::file::read_file;
+use byte_io::Files;
 use std::alloc::Global;
 use subkeys::Subkeys;
 
@@ -25,12 +26,9 @@ pub fn read_key<'a, F: Files>(
     ensures counted { CountsFault result (F.file_faults files.old) (F.file_faults files.new) }
     ensures kept { F.files files.new ≡ F.files files.old }
 {
-    match files.read(alloc, name, KEY_ROOM) {
-        Ok(key) => match Subkeys::of(key.as_slice()) {
-            Ok(subkeys) => Ok(subkeys),
-            Err(_) => Err(Ending::WrongSize(name, key.len() as u64)),
-        },
-        Err(FileFail::Failed) => Err(Ending::Unread(name)),
-        Err(FileFail::NoMemory) => Err(Ending::NoMemory),
+    let key = read_file(alloc, files, name, KEY_ROOM)?;
+    match Subkeys::of(key.as_slice()) {
+        Ok(subkeys) => Ok(subkeys),
+        Err(_) => Err(Ending::WrongSize(name, key.len() as u64)),
     }
 }

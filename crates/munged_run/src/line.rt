@@ -1,6 +1,6 @@
 //! A line on the error stream, written without taking memory.
 
-ghost use Rattle.std.specs.Prelude.{◌≡◌, [], None, OnErr, OnOk};
+ghost use Rattle.std.specs.Prelude.{◌≡◌, [], OnErr, OnOk};
 ghost use Rattle.std.specs.Io.KnownBytes.{Appends};
 ghost use Rattle.byte_io.specs.Counts.{Rose};
 ghost use Rattle.munged_run.specs.Line.{number_text, text_of};
@@ -9,13 +9,24 @@ use byte_io::{AllWritten, Sink, write_all};
 use itoa::Buffer;
 use munge_types::Failed;
 
+/// A number in a line.
+#[derive(Clone, Copy, Debug, PartialEq, Eq)]
+pub enum Number {
+    /// There is none.
+    Nothing,
+    /// How many, or which one.
+    Count(u64),
+    /// What was given where a number is wanted.
+    Value(i64),
+}
+
 /// A line in parts, one behind the other, of which any may be empty.
 #[derive(Clone, Copy, Debug, PartialEq, Eq)]
 pub struct Line<'a> {
     pub front: &'static str,
     pub name: &'a str,
     pub middle: &'static str,
-    pub number: Option<u64>,
+    pub number: Number,
     pub back: &'static str,
 }
 
@@ -25,14 +36,14 @@ impl Line<'_> {
         ensures front { result.front.now ≡ front.now }
         ensures name { result.name.now ≡ [] }
         ensures middle { result.middle.now ≡ [] }
-        ensures number { result.number ≡ None }
+        ensures number { result.number ≡ Number.Nothing }
         ensures back { result.back.now ≡ [] }
     {
         Line {
             front,
             name: "",
             middle: "",
-            number: None,
+            number: Number::Nothing,
             back: "",
         }
     }
@@ -63,17 +74,16 @@ fn put<E: Sink>(err: &mut E, part: &str) -> Result<(), Failed>
 }
 
 /// Writes a number in decimal, if there is one.
-fn put_number<E: Sink>(err: &mut E, number: Option<u64>) -> Result<(), Failed>
+fn put_number<E: Sink>(err: &mut E, number: Number) -> Result<(), Failed>
     ensures written { OnOk result
         (Appends (E.taken err.old) (E.taken err.new) (number_text number)) }
     ensures failed { OnErr result (Rose (E.write_faults err.old) (E.write_faults err.new)) }
     ensures sound { OnOk result (E.write_faults err.new ≡ E.write_faults err.old) }
 {
+    let mut digits = Buffer::new();
     match number {
-        Some(number) => {
-            let mut digits = Buffer::new();
-            put(err, digits.format(number))
-        }
-        None => put(err, ""),
+        Number::Nothing => put(err, ""),
+        Number::Count(count) => put(err, digits.format(count)),
+        Number::Value(value) => put(err, digits.format(value)),
     }
 }

@@ -1,12 +1,16 @@
-//! The program of munged: `munged session KEYFILE UID GID [SEEDFILE]` answers the encode and decode
-//! requests of its standard input on its standard output. Without a seed file nothing is sealed.
-//! `munged --help` and `munged --version` say what it is.
+//! The program of munged: `munged session KEYFILE UID GID [SEEDFILE]` answers the requests of its
+//! standard input on its standard output; without a seed file nothing is sealed. `munged check
+//! CONFIG` looks over an option file and the files that it names. `munged --help` and
+//! `munged --version` say what it is.
 #![tactic(auto)]
 
+mod check;
 mod command;
 mod ending;
+mod file;
 mod key_file;
 mod line;
+mod maps;
 mod run;
 mod seed_file;
 mod session;
@@ -29,13 +33,17 @@ munged: seals credentials and opens them, each at most once
       output, for the caller with this UID and GID, under the key in KEYFILE;
       salts and vectors are drawn from SEEDFILE (/dev/urandom, say), without
       which nothing is sealed
+  munged check CONFIG
+      looks over the option file CONFIG and the key, passwd and group files
+      that it names, and prints ok where none is refused
   munged --help
   munged --version
 
-Exit statuses: 0 the input was read to its end; 1 the words are no command;
-2 a file could not be read; 3 a key or seed file of a wrong size; 5 the input,
+Exit statuses: 0 the command was done, or the input of a session read to its
+end; 1 the words are no command; 2 a file could not be read; 3 a key or seed
+file of a wrong size; 4 an option, passwd or group file is refused; 5 the input,
 6 the output or 7 the clock failed; 9 what came is no request; 10 no memory;
-11 1048576 requests were answered.
+11 1048576 requests were answered. One line on standard error says which.
 ";
 
 /// What `munged --version` prints.

@@ -5,9 +5,8 @@ ghost use Rattle.std.specs.String.{string_bytes};
 ghost use Rattle.byte_io.specs.Counts.{Rose};
 ghost use Rattle.session_core.specs.Things.{input_of, outside_of};
 ghost use Rattle.munged_run.specs.CommandLine.{command_of};
-ghost use Rattle.munged_run.specs.Ending.{Says, errors_of, line_of, status_of};
-ghost use Rattle.munged_run.specs.EndingTold.{ending_told};
-ghost use Rattle.munged_run.specs.Program.{Ran, given_of};
+ghost use Rattle.munged_run.specs.Ending.{Ended, Says, errors_of};
+ghost use Rattle.munged_run.specs.Program.{ComesTo, given_of, same_of};
 ghost use Rattle.munged_run.specs.Status.{
   bad_words,
   failed_clock,
@@ -19,8 +18,9 @@ ghost use Rattle.munged_run.specs.Status.{
 };
 ghost use Rattle.munged_run.specs.WholeRequests.{AnswersWhole, WholeRequests};
 
-use crate::command::command_of_words;
-use crate::ending::Ending;
+use crate::check::run_check;
+use crate::command::{Command, command_of_words};
+use crate::ending::{Ending, end};
 use crate::session::run_session;
 use byte_io::{Clock, Files, Sink, Source};
 use std::alloc::Global;
@@ -41,8 +41,8 @@ pub fn munged_run<F: Files, I: Source, O: Sink, E: Sink, C: Clock>(
         (O.taken out.old) (C.readings clock.old) in
         let after = outside_of (input_of (I.left input.new) (I.ends input.new))
         (O.taken out.new) (C.readings clock.new) in
-        Ran (given_of (map string_bytes words.now) (F.files files.old))
-        ((input.new ≡ input.old) × (out.new ≡ out.old) × (clock.new ≡ clock.old)) before after
+        let same = same_of ((input.new ≡ input.old) × (clock.new ≡ clock.old)) (out.new ≡ out.old) in
+        Ended (ComesTo (given_of (map string_bytes words.now) (F.files files.old)) same before after)
         (Says (errors_of (E.taken err.old) (E.write_faults err.old))
         (errors_of (E.taken err.new) (E.write_faults err.new))) result }
     ensures no_command { (result ≡ bad_words)
@@ -83,19 +83,12 @@ pub fn munged_run<F: Files, I: Source, O: Sink, E: Sink, C: Clock>(
 {
     frame_has_one_message();
     no_frame_goes_on_to_another();
-    let Some(command) = command_of_words(words) else {
-        return end(err, Ending::NoCommand);
-    };
-    let ending = run_session(alloc, &command, files, input, out, clock);
-    end(err, ending)
-}
-
-/// Says how the program ends, and returns the status of the process.
-fn end<E: Sink>(err: &mut E, ending: Ending<'_>) -> u8
-    ensures status { result ≡ status_of (ending_told ending.entry) }
-    ensures says { Says (errors_of (E.taken err.old) (E.write_faults err.old))
-        (errors_of (E.taken err.new) (E.write_faults err.new)) (line_of (ending_told ending.entry)) }
-{
-    ending.say_on(err);
-    ending.status()
+    match command_of_words(words) {
+        Some(Command::Session(asked)) => {
+            let ending = run_session(alloc, &asked, files, input, out, clock);
+            end(err, ending)
+        }
+        Some(Command::Check(config)) => run_check(alloc, config, files, out, err),
+        None => end(err, Ending::NoCommand),
+    }
 }

@@ -1,12 +1,24 @@
 //! The seed file.
 
-ghost use Rattle.std.specs.Prelude.{◌≡◌, ◌<◌, ◌≤◌, IfErr, IfNone, IfOk, IfSome, OnSome, length, option_map};
+ghost use Rattle.std.specs.Prelude.{
+  ◌≡◌,
+  ◌<◌,
+  ◌≤◌,
+  IfErr,
+  IfNone,
+  IfOk,
+  IfSome,
+  OnSome,
+  length,
+  option_map,
+};
 ghost use Rattle.munged_run.specs.EndingTold.{ending_told};
 ghost use Rattle.munged_run.specs.Faults.{CountsFault};
 ghost use Rattle.munged_run.specs.SeedFile.{GivesNoSeed, IsSeedOf};
 
 use crate::ending::Ending;
-use byte_io::{FileFail, Files};
+use crate::file::read_file;
+use byte_io::Files;
 use std::alloc::Global;
 
 /// The bytes of a seed.
@@ -29,13 +41,13 @@ pub fn read_seed<'a, F: Files>(
     let Some(name) = seed_file else {
         return Ok(None);
     };
-    match files.read(alloc, name, SEED_SIZE as u32) {
-        Ok(bytes) => match seed_of(&bytes) {
-            Some(seed) => Ok(Some(seed)),
-            None => Err(Ending::WrongSize(name, bytes.len() as u64)),
-        },
-        Err(FileFail::Failed) => Err(Ending::Unread(name)),
-        Err(FileFail::NoMemory) => Err(Ending::NoMemory),
+    let bytes = match read_file(alloc, files, name, SEED_SIZE as u32) {
+        Ok(bytes) => bytes,
+        Err(ending) => return Err(ending),
+    };
+    match seed_of(&bytes) {
+        Some(seed) => Ok(Some(seed)),
+        None => Err(Ending::WrongSize(name, bytes.len() as u64)),
     }
 }
 

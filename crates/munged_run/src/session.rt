@@ -15,13 +15,15 @@ use crate::key_file::read_key;
 use crate::seed_file::read_seed;
 use byte_io::{Clock, Files, Sink, Source};
 use decode_rules::World;
+use group_map::GroupMap;
 use munge_types::Settings;
 use replay_table::ReplayTable;
 use session_core::session;
 use std::alloc::Global;
 use std::hash::{BuildHasherDefault, FoldHasher};
 
-/// Runs the session that was asked for, with the usual settings and an empty replay state, and says
+/// Runs the session that was asked for, with the usual settings, without groups and with an empty replay
+/// state, and says
 /// how the program ends. The key file is read first, then the seed file.
 pub fn run_session<'a, F: Files, I: Source, O: Sink, C: Clock>(
     alloc: Global,
@@ -36,7 +38,7 @@ pub fn run_session<'a, F: Files, I: Source, O: Sink, C: Clock>(
         let after = outside_of (input_of (I.left input.new) (I.ends input.new))
         (O.taken out.new) (C.readings clock.new) in
         SessionCame (F.files files.old) (asked_told asked.now)
-        ((input.new ≡ input.old) × (out.new ≡ out.old) × (clock.new ≡ clock.old))
+        (((input.new ≡ input.old) × (clock.new ≡ clock.old)) × (out.new ≡ out.old))
         before after (ending_told result) }
 
     ensures file_fault { FaultOf (ending_told result)
@@ -67,6 +69,7 @@ pub fn run_session<'a, F: Files, I: Source, O: Sink, C: Clock>(
     let world = World {
         subkeys,
         settings: Settings::usual(),
+        groups: GroupMap::none(),
     };
     let hash_state: BuildHasherDefault<FoldHasher> = BuildHasherDefault::new();
     let mut replay = ReplayTable::new(alloc, hash_state);

@@ -1,5 +1,6 @@
 //! Runs of the program over the outside in memory.
 
+mod check;
 mod ciphers;
 mod credential;
 mod faults;

@@ -70,7 +70,7 @@ text_one law session own text first second a b readings =
 seal_reply_one : SealedTextsAreOne → (terms : Terms) (moment : ℕ) (asked : Asked) (salt vector reply reply' : List ℕ)
     → IsSealReply terms moment asked salt vector reply → IsSealReply terms moment asked salt vector reply' → reply ≡ reply'
 seal_reply_one law terms moment asked salt vector reply reply' (sealed text is reply_is) (sealed text' is' reply_is') =
-    reply_is ∙ ap (encode_reply status.Success) (law terms.key terms.settings asked terms.who moment salt vector text text' is.is_sealed is'.is_sealed)
+    reply_is ∙ ap (encode_reply status.Success) (law terms.files.key terms.settings asked terms.who moment salt vector text text' is.is_sealed is'.is_sealed)
     ∙ sym reply_is'
 seal_reply_one law terms moment asked salt vector reply reply' (sealed text is reply_is) (refused why said first said_is reply_is') =
     let unrefused = is.unrefused in cc (unrefused, first)

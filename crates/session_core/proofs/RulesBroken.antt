@@ -45,7 +45,7 @@ pub refusal_rule : (terms : Terms) (moment : ℕ) (text : List ℕ) (finding : F
     → Finds terms moment text finding → finding ≡ Refused rule said shown → 1 ≤ rule
 refusal_rule terms moment text finding rule said shown (unopened {rule = number} {status = status} refuses) same =
     let alike : number ≡ rule = cc same in
-    omega (arith, alike, refused_above terms.key text number status refuses)
+    omega (arith, alike, refused_above terms.files.key text number status refuses)
 refusal_rule terms moment text finding rule said shown (opened credential opens) same =
     barred_above (caller_breaks terms moment credential) credential rule said shown
     (λ number status found. broken_above 1

@@ -50,16 +50,16 @@ refused_status cause.NoMemory said is zero = cc is
 -- the text of an encode reply with status 0 opens
 opens_in_spaces : (terms : Terms) (seed : Option (List ℕ)) (place moment : ℕ) (asked : Asked) (reply text : List ℕ) (next : ℕ)
     → Encodes terms seed place moment asked reply next → reply ≡ encode_reply status.Success text
-    → OpensInSpaces terms.key (content_sealed terms moment asked (salt_from seed place)) text
+    → OpensInSpaces terms.files.key (content_sealed terms moment asked (salt_from seed place)) text
 opens_in_spaces terms None place moment asked reply text next encodes reply_is =
     absurd (omega (arith, same_status status.BadArgument status.Success [] text (sym encodes.0 ∙ reply_is)))
 opens_in_spaces terms (Some seed) place moment asked reply text next encodes reply_is =
     of_reply encodes.0
   where
     of_reply : IsSealReply terms moment asked (salt_at seed place) (vector_at seed place) reply
-        → OpensInSpaces terms.key (content_sealed terms moment asked (salt_at seed place)) text
+        → OpensInSpaces terms.files.key (content_sealed terms moment asked (salt_at seed place)) text
     of_reply (sealed text' is is_reply) =
-        subst (OpensInSpaces terms.key (content_sealed terms moment asked (salt_at seed place)))
+        subst (OpensInSpaces terms.files.key (content_sealed terms moment asked (salt_at seed place)))
         (same_text status.Success status.Success text' text (sym is_reply ∙ reply_is)) is.opens
     of_reply (refused why said first said_is is_reply) =
         absurd (refused_status why said said_is (same_status said status.Success [] text (sym is_reply ∙ reply_is)))

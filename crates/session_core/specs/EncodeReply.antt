@@ -38,8 +38,8 @@ content_sealed terms moment asked salt = sealed_content terms.settings asked ter
 -- it, to what was asked, by whom and when, is what `cred_seal` promises of it, carried along.
 pub record IsSealedFor (terms : Terms) (moment : ℕ) (asked : Asked) (salt vector text : List ℕ) : Type 0 where
   pub unrefused : first_refusal asked ≡ None
-  pub is_sealed : IsSealed terms.key terms.settings asked terms.who moment salt vector text
-  pub opens : OpensInSpaces terms.key (content_sealed terms moment asked salt) text
+  pub is_sealed : IsSealed terms.files.key terms.settings asked terms.who moment salt vector text
+  pub opens : OpensInSpaces terms.files.key (content_sealed terms moment asked salt) text
 
 -- The reply is that to what is asked, sealed with this salt and vector: the text, or why there is
 -- none.

@@ -5,9 +5,9 @@ ghost use Rattle.byte_io.specs.Counts.{Rose};
 ghost use Rattle.munge_types.specs.StandsFor.{Stands};
 ghost use Rattle.munge_types.specs.Status.{status_number};
 ghost use Rattle.munge_types.specs.declared.history.Event.{Event};
-ghost use Rattle.subkeys.specs.Subkeys.{IsOf};
 ghost use Rattle.wire_msg.specs.Spelling.{frame_of};
 ghost use Rattle.wire_msg.specs.declared.message.Message.TheVariants.{Bye};
+ghost use Rattle.decode_rules.specs.Terms.{IsMadeOf, WorldFiles};
 ghost use Rattle.session_core.specs.AllLive.{AllLive};
 ghost use Rattle.session_core.specs.Answering.{Own, stop_status};
 ghost use Rattle.session_core.specs.Requests.{IsRequest};
@@ -55,17 +55,17 @@ pub(crate) fn make_answer<C: Clock, R: Replay>(
     requires fits { IsRequest request.now }
     requires few { entries + 2 < 2 ^ 64 }
 
-    ensures answered { (key : List ℕ) (base : List Event) (own : Own) → IsOf world.now.subkeys key
+    ensures answered { (files : WorldFiles) (base : List Event) (own : Own) → IsMadeOf world.now files
         → Stands (R.remembered replay.old) (base ++ own.events)
         → IsAt own (stage_of entries (place_of dice.old))
         → IfOk result (λ answer. IsAnswered
-        (session_of world.now who key (seed_of dice.old) base) own request.now answer.reply.items
+        (session_of world.now who files (seed_of dice.old) base) own request.now answer.reply.items
         (C.readings clock.old) (C.readings clock.new) (R.remembered replay.new)
         (stage_of answer.entries (place_of dice.new))) }
-    ensures unanswered { (key : List ℕ) (base own : List Event)
+    ensures unanswered { (files : WorldFiles) (base own : List Event)
         → Stands (R.remembered replay.old) (base ++ own)
         → IfErr result (LeavesUnanswered
-        (session_of world.now who key (seed_of dice.old) base) own request.now
+        (session_of world.now who files (seed_of dice.old) base) own request.now
         (C.readings clock.old) (C.readings clock.new) (R.remembered replay.new)) }
 
     ensures clock_fault { result ≡ Err Unanswered.ClockFault

@@ -3,7 +3,7 @@
 ghost use Rattle.std.specs.Prelude.{◌≡◌, ℕ, ◌+◌, ◌<◌, ◌≤◌, ◌^◌, ◌++◌, List, Option, length, IfOk, OnErr};
 ghost use Rattle.munge_types.specs.StandsFor.{Stands};
 ghost use Rattle.munge_types.specs.declared.history.Event.{Event};
-ghost use Rattle.subkeys.specs.Subkeys.{IsOf};
+ghost use Rattle.decode_rules.specs.Terms.{IsMadeOf, WorldFiles};
 ghost use Rattle.session_core.specs.AllLive.{AllLive};
 ghost use Rattle.session_core.specs.Answering.{before_decode};
 ghost use Rattle.session_core.specs.Session.{session_of};
@@ -30,10 +30,10 @@ pub(crate) fn decode<R: Replay>(
 ) -> Result<Answer, NoMemory>
     requires { entries + 2 < 2 ^ 64 }
 
-    ensures decoded { (key : List ℕ) (seed : Option (List ℕ)) (base own : List Event)
-        → IsOf world.now.subkeys key
+    ensures decoded { (files : WorldFiles) (seed : Option (List ℕ)) (base own : List Event)
+        → IsMadeOf world.now files
         → Stands (R.remembered replay.old) (base ++ own) → length own ≡ entries
-        → IfOk result (λ answer. IsDecoded (session_of world.now who key seed base) own moment
+        → IfOk result (λ answer. IsDecoded (session_of world.now who files seed base) own moment
         text.now answer.reply.items answer.entries (R.remembered replay.new)) }
     ensures given_up { (base own : List Event) → Stands (R.remembered replay.old) (base ++ own)
         → OnErr result (Stands (R.remembered replay.new) (base ++ before_decode base own moment)) }

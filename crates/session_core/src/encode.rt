@@ -1,10 +1,9 @@
 //! Answering an encode request.
 
 ghost use Rattle.std.specs.Prelude.{◌≡◌, ◌≤◌, ℕ, [], List, IfOk, length};
-ghost use Rattle.subkeys.specs.Subkeys.{IsOf};
 ghost use Rattle.cred_seal.specs.Asked.{asked_of};
 ghost use Rattle.cred_seal.specs.SealedText.{text_limit};
-ghost use Rattle.decode_rules.specs.Terms.{terms_of};
+ghost use Rattle.decode_rules.specs.Terms.{IsMadeOf, WorldFiles, terms_of};
 ghost use Rattle.session_core.specs.AskedBy.{asked_by};
 ghost use Rattle.session_core.specs.EncodeReply.{Encodes, IsSealReply, encode_reply};
 ghost use Rattle.session_core.specs.Seed.{place_of, seed_of};
@@ -25,8 +24,8 @@ pub(crate) fn encode(
     moment: u32,
     ask: &EncodeAsk,
 ) -> Result<Vec<u8>, NoMemory>
-    ensures encoded { (key : List ℕ) → IsOf world.now.subkeys key → IfOk result (λ reply. Encodes
-        (terms_of world.now who key) (seed_of dice.old) (place_of dice.old) moment
+    ensures encoded { (files : WorldFiles) → IsMadeOf world.now files → IfOk result (λ reply. Encodes
+        (terms_of world.now who files) (seed_of dice.old) (place_of dice.old) moment
         (asked_by ask.now) reply.items (place_of dice.new)) }
     ensures same_seed { seed_of dice.new ≡ seed_of dice.old }
 {
@@ -49,8 +48,8 @@ fn seal_reply(
     ask: &EncodeAsk,
     drawn: &Drawn,
 ) -> Result<Vec<u8>, NoMemory>
-    ensures { (key : List ℕ) → IsOf world.now.subkeys key → IfOk result (λ reply. IsSealReply
-        (terms_of world.now who key) moment (asked_by ask.now) drawn.now.salt drawn.now.iv reply.items) }
+    ensures { (files : WorldFiles) → IsMadeOf world.now files → IfOk result (λ reply. IsSealReply
+        (terms_of world.now who files) moment (asked_by ask.now) drawn.now.salt drawn.now.iv reply.items) }
 {
     match seal(
         alloc,

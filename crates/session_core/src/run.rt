@@ -4,8 +4,8 @@ ghost use Rattle.std.specs.Prelude.{◌≡◌, ◌≢◌, ◌≤◌, ℕ, List, 
 ghost use Rattle.byte_io.specs.Counts.{Rose};
 ghost use Rattle.munge_types.specs.StandsFor.{Stands};
 ghost use Rattle.munge_types.specs.declared.history.Event.{Event};
-ghost use Rattle.subkeys.specs.Subkeys.{IsOf};
 ghost use Rattle.wire_msg.specs.declared.kind.Side.TheVariants.{Requests};
+ghost use Rattle.decode_rules.specs.Terms.{IsMadeOf, WorldFiles};
 ghost use Rattle.session_core.specs.AllLive.{AllLive};
 ghost use Rattle.session_core.specs.RunSoFar.{IsAsked};
 ghost use Rattle.session_core.specs.Seed.{place_of, seed_of};
@@ -44,14 +44,14 @@ pub fn session<I: Source, O: Sink, C: Clock, R: Replay>(
     world: &World,
     seed: Option<[u8; 32]>,
 ) -> SessionEnd
-    // For each key that the subkeys are of, and each history that the state stands for at entry.
-    ensures ran { (key : List ℕ) (base : List Event) → IsOf world.now.subkeys key
+    // For all files that the world is made of, and each history that the state stands for at entry.
+    ensures ran { (files : WorldFiles) (base : List Event) → IsMadeOf world.now files
         → Stands (R.remembered replay.old) base
         → let before = outside_of (input_of (I.left input.old) (I.ends input.old))
         (O.taken out.old) (C.readings clock.old) in
         let after = outside_of (input_of (I.left input.new) (I.ends input.new))
         (O.taken out.new) (C.readings clock.new) in
-        SessionRan (session_of world.now who key seed base) result
+        SessionRan (session_of world.now who files seed base) result
         (things_of before (R.remembered replay.old)) (things_of after (R.remembered replay.new)) }
 
     // Where no kept pair is below the floor at entry, none is at the end.
@@ -111,13 +111,13 @@ fn answer_all<I: Source, O: Sink, C: Clock, R: Replay>(
     requires room { 1 ≤ length buffer.old }
     requires place { place_of dice.old ≡ 0 }
 
-    ensures ran { (key : List ℕ) (base : List Event) → IsOf world.now.subkeys key
+    ensures ran { (files : WorldFiles) (base : List Event) → IsMadeOf world.now files
         → Stands (R.remembered replay.old) base
         → let before = outside_of (input_of (I.left input.old) (I.ends input.old))
         (O.taken out.old) (C.readings clock.old) in
         let after = outside_of (input_of (I.left input.new) (I.ends input.new))
         (O.taken out.new) (C.readings clock.new) in
-        SessionRan (session_of world.now who key (seed_of dice.old) base) result
+        SessionRan (session_of world.now who files (seed_of dice.old) base) result
         (things_of before (R.remembered replay.old)) (things_of after (R.remembered replay.new)) }
     ensures live { AllLive (R.remembered replay.old) → AllLive (R.remembered replay.new) }
     ensures read_fault { result.how ≡ HowEnded.ReadFault

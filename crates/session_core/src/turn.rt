@@ -19,8 +19,8 @@ ghost use Rattle.std.specs.Prelude.{
 ghost use Rattle.byte_io.specs.Counts.{Rose};
 ghost use Rattle.munge_types.specs.StandsFor.{Stands};
 ghost use Rattle.munge_types.specs.declared.history.Event.{Event};
-ghost use Rattle.subkeys.specs.Subkeys.{IsOf};
 ghost use Rattle.wire_msg.specs.declared.kind.Side.TheVariants.{Requests};
+ghost use Rattle.decode_rules.specs.Terms.{IsMadeOf, WorldFiles};
 ghost use Rattle.session_core.specs.AllLive.{AllLive};
 ghost use Rattle.session_core.specs.Answering.{Own, is_last};
 ghost use Rattle.session_core.specs.Reading.{how_of};
@@ -69,25 +69,25 @@ pub(crate) fn take_turn<I: Source, O: Sink, C: Clock, R: Replay>(
     requires room { 1 ≤ length buffer.old }
     requires few_entries { entries + 2 < 2 ^ 64 }
 
-    ensures turned { (key : List ℕ) (base : List Event) (own : Own) → IsOf world.now.subkeys key
+    ensures turned { (files : WorldFiles) (base : List Event) (own : Own) → IsMadeOf world.now files
         → Stands (R.remembered replay.old) (base ++ own.events)
         → IsAt own (stage_of entries (place_of dice.old))
         → let before = outside_of (input_of (I.left input.old) (I.ends input.old))
         (O.taken out.old) (C.readings clock.old) in
         let after = outside_of (input_of (I.left input.new) (I.ends input.new))
         (O.taken out.new) (C.readings clock.new) in
-        IfOk result (λ turned. IsTurned (session_of world.now who key (seed_of dice.old) base) own
+        IfOk result (λ turned. IsTurned (session_of world.now who files (seed_of dice.old) base) own
         (things_of before (R.remembered replay.old)) (things_of after (R.remembered replay.new))
         feeder.old.begins feeder.new.begins turned.over
         (stage_of turned.entries (place_of dice.new))) }
-    ensures ended { (key : List ℕ) (base : List Event) (own : Own) → IsOf world.now.subkeys key
+    ensures ended { (files : WorldFiles) (base : List Event) (own : Own) → IsMadeOf world.now files
         → Stands (R.remembered replay.old) (base ++ own.events)
         → IsAt own (stage_of entries (place_of dice.old))
         → let before = outside_of (input_of (I.left input.old) (I.ends input.old))
         (O.taken out.old) (C.readings clock.old) in
         let after = outside_of (input_of (I.left input.new) (I.ends input.new))
         (O.taken out.new) (C.readings clock.new) in
-        IfErr result (HasEnded (session_of world.now who key (seed_of dice.old) base) own
+        IfErr result (HasEnded (session_of world.now who files (seed_of dice.old) base) own
         (things_of before (R.remembered replay.old)) (things_of after (R.remembered replay.new))
         feeder.old.begins) }
 

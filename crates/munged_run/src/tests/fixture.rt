@@ -24,6 +24,8 @@ pub(super) struct Run {
     pub(super) key: Vec<u8>,
     /// The bytes of the file `seed`, if there is one.
     pub(super) seed: Option<Vec<u8>>,
+    /// The other files.
+    others: Vec<NamedFile>,
     pub(super) input: Vec<u8>,
     /// The readings of the clock.
     pub(super) readings: Vec<u32>,
@@ -46,6 +48,7 @@ impl Run {
             words: String::from_str(alloc, "session\nkey\n7\n7")?,
             key: Vec::from_slice(alloc, &KEY)?,
             seed: None,
+            others: Vec::new(alloc),
             input: Vec::new(alloc),
             readings: Vec::new(alloc),
             failing_read: 0,
@@ -60,6 +63,13 @@ impl Run {
     pub(super) fn seed_with(&mut self, bytes: &[u8]) -> Result<(), AllocError> {
         self.words.push_str("\nseed")?;
         self.seed = Some(Vec::from_slice(self.alloc, bytes)?);
+        Ok(())
+    }
+
+    /// A file of this name with these bytes.
+    pub(super) fn add_file(&mut self, name: &str, bytes: &[u8]) -> Result<(), AllocError> {
+        let file = named_file(self.alloc, name, bytes)?;
+        self.others.push(file)?;
         Ok(())
     }
 
@@ -116,6 +126,9 @@ impl Run {
         let mut named = vec![in alloc; named_file(alloc, "key", &self.key)?]?;
         if let Some(seed) = &self.seed {
             named.push(named_file(alloc, "seed", seed)?)?;
+        }
+        for file in &self.others {
+            named.push(named_file(alloc, file.name.as_str(), &file.bytes)?)?;
         }
         let fails = vec![in alloc; self.failing_file]?;
         let mut files = MemFiles::new(named, fails);

@@ -5,8 +5,8 @@ pub returns : goal.returns
 returns c = λ terms moment text first second.
     finding_one terms moment text first second
     (record {
-      rule_one = c.refusal_is_one.ensures.rule terms.key text;
-      status_one = c.refusal_is_one.ensures.status terms.key text;
-      not_both = c.refused_is_not_opened.ensures terms.key text;
-      credential_one = c.credential_is_one.ensures terms.key text;
+      rule_one = c.refusal_is_one.ensures.rule terms.files.key text;
+      status_one = c.refusal_is_one.ensures.status terms.files.key text;
+      not_both = c.refused_is_not_opened.ensures terms.files.key text;
+      credential_one = c.credential_is_one.ensures terms.files.key text;
     })

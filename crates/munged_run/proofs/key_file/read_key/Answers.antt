@@ -4,8 +4,9 @@ use Rattle.munged_run.specs.KeyFile.{refused}
 use Rattle.munged_run.proofs.RunLemmas.{not_a_key}
 use Rattle.munged_run.proofs.key_file.read_key.Goals as goal
 
-pub returns-in-Ok-clause-no_key : goal.returns-in-Ok-clause-no_key
-returns-in-Ok-clause-no_key g c =
+pub returns-clause-no_key : goal.returns-clause-no_key
+returns-clause-no_key g c =
     let taken = rw c.as_slice.ensures.value at c.in-Err.ensures.taken in
-    refused c.in-Ok.key.items c.in-Ok.ensures.content
-    (not_a_key _ (λ sized. false≢true (taken.1 sized))) (rw (c.len.ensures, c.in-Ok.key.ok.0) refl)
+    refused c.in_ok-key.key.items c.in_ok-key.ensures.read
+    (not_a_key _ (λ sized. false≢true (taken.1 sized)))
+    (rw (c.len.ensures, c.in_ok-key.key.ok.0) refl)

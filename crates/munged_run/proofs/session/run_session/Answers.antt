@@ -1,16 +1,17 @@
-use Rattle.std.proofs.Common.{[], refl}
+use Rattle.std.proofs.Common.{[], refl, ap, ◌∙◌}
+use Rattle.munged_run.specs.Ending.{after_session}
 use Rattle.munged_run.specs.Program.{answered, unkeyed, unseeded}
 use Rattle.munged_run.proofs.RunLemmas.{session_answered}
 use Rattle.munged_run.proofs.session.run_session.Goals as goal
 
 pub returns-in-Err-clause-came : goal.returns-in-Err-clause-came
-returns-in-Err-clause-came g c = unkeyed (refl, refl, refl) c.in-Err.ensures.no_key
+returns-in-Err-clause-came g c = unkeyed ((refl, refl), refl) c.in-Err.ensures.no_key
 
 pub returns-in-Err-read_seed-clause-came : goal.returns-in-Err-read_seed-clause-came
 returns-in-Err-read_seed-clause-came g c =
     let key = c.in-Ok.ensures.key in
     let no_seed = rw c.in-Ok.ensures.kept at c.in-Err-read_seed.ensures.no_seed in
-    unseeded (refl, refl, refl) key.key key.holds no_seed
+    unseeded ((refl, refl), refl) key.key key.holds no_seed
 
 pub returns-clause-came : goal.returns-clause-came
 returns-clause-came g c =
@@ -25,5 +26,18 @@ returns-clause-came g c =
       addr = c.usual.ensures.addr;
     })
     c.caller-who.ensures c.new-replay.ensures.floor c.new-replay.ensures.kept
-    (c.session-end.ensures.ran key.key [] key.subkeys_are c.new-replay.ensures.stands)
+    (c.session-end.ensures.ran (record { key = key.key; passwd = []; group = [] }) []
+    (record { subkeys = key.subkeys_are; groups = c.none.ensures }) c.new-replay.ensures.stands)
     c.after.ensures)
+
+pub returns-clause-reads_sound : goal.returns-clause-reads_sound
+returns-clause-reads_sound g c =
+    λ other. c.session-end.ensures.reads_sound (λ is. other (c.after.ensures ∙ ap after_session is))
+
+pub returns-clause-writes_sound : goal.returns-clause-writes_sound
+returns-clause-writes_sound g c =
+    λ other. c.session-end.ensures.writes_sound (λ is. other (c.after.ensures ∙ ap after_session is))
+
+pub returns-clause-clock_sound : goal.returns-clause-clock_sound
+returns-clause-clock_sound g c =
+    λ other. c.session-end.ensures.clock_sound (λ is. other (c.after.ensures ∙ ap after_session is))

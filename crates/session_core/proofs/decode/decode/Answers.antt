@@ -5,9 +5,9 @@ use Rattle.session_core.proofs.TurnLemmas.{answered_ready}
 use Rattle.session_core.proofs.decode.decode.Goals as goal
 
 pub returns-in_ok-verdict-in-Ready-clause-decoded : goal.returns-in_ok-verdict-in-Ready-clause-decoded
-returns-in_ok-verdict-in-Ready-clause-decoded g c = λ key seed base own is stands count.
-    let session = session_of c.args.world.now c.args.who key seed base in
-    let ready : IsReady session.terms c.args.moment c.args.text.now c.in-Ready.ready = rw c.in-Ready.is at (c.in_ok-reply.ensures key is) in
+returns-in_ok-verdict-in-Ready-clause-decoded g c = λ files seed base own is stands count.
+    let session = session_of c.args.world.now c.args.who files seed base in
+    let ready : IsReady session.terms c.args.moment c.args.text.now c.in-Ready.ready = rw c.in-Ready.is at (c.in_ok-reply.ensures files is) in
     rw c.into_bytes-in-Ready.ensures (answered_ready session own c.args.moment _ _ _ _ c.args.text.now c.in-Ready.ready c.complete-reply.result c.in_ok-verdict-in-Ready.verdict count
     (c.purge_if_due.ensures.purged base own stands) ready (rw c.pair.ensures at c.in_ok-verdict-in-Ready.ensures.verdict) (rw c.pair.ensures at c.in_ok-verdict-in-Ready.ensures.stands) c.complete-reply.ensures)
 

@@ -7,9 +7,9 @@ use Rattle.session_core.proofs.run.answer_all.Goals as goal
 
 pub requests-init : goal.requests-init
 requests-init g c = record {
-  so_far = λ key base is stands.
+  so_far = λ files base is stands.
       rw (c.requires.place, c.requires.begins)
-      (run_none (session_of c.args.world.now c.args.who key (seed_of c.args.dice.now) base) _ stands);
+      (run_none (session_of c.args.world.now c.args.who files (seed_of c.args.dice.now) base) _ stands);
   same_seed = refl;
   live = λ live. live;
   side = c.requires.side;
@@ -24,10 +24,10 @@ requests-init g c = record {
 
 pub requests-preserved : goal.requests-preserved
 requests-preserved g c = record {
-  so_far = λ key base is stands.
-      let so_far = c.requests.invariant.so_far key base is stands in
-      so_far_more (session_of c.args.world.now c.args.who key (seed_of c.args.dice.now) base) _ _ _ c.requests.answered _ _ _ _ c.in-Ok.turned.over so_far
-      (rw c.requests.invariant.same_seed at (c.in-Ok.ensures.turned key base so_far.outcome.own is so_far.moves.stands so_far.is_at)) c.if-turned.false;
+  so_far = λ files base is stands.
+      let so_far = c.requests.invariant.so_far files base is stands in
+      so_far_more (session_of c.args.world.now c.args.who files (seed_of c.args.dice.now) base) _ _ _ c.requests.answered _ _ _ _ c.in-Ok.turned.over so_far
+      (rw c.requests.invariant.same_seed at (c.in-Ok.ensures.turned files base so_far.outcome.own is so_far.moves.stands so_far.is_at)) c.if-turned.false;
   same_seed = c.in-Ok.ensures.same_seed ∙ c.requests.invariant.same_seed;
   live = λ live. c.in-Ok.ensures.live (c.requests.invariant.live live);
   side = c.in-Ok.ensures.side ∙ c.requests.invariant.side;
@@ -41,20 +41,20 @@ requests-preserved g c = record {
 }
 
 pub returns-then-turned-clause-ran : goal.returns-then-turned-clause-ran
-returns-then-turned-clause-ran g c = λ key base is stands.
-    let so_far = c.requests.invariant.so_far key base is stands in
-    so_far_stopped (session_of c.args.world.now c.args.who key (seed_of c.args.dice.now) base) _ _ _ c.requests.answered _ _ _ _ c.in-Ok.turned.over (omega arith) so_far
-    (rw c.requests.invariant.same_seed at (c.in-Ok.ensures.turned key base so_far.outcome.own is so_far.moves.stands so_far.is_at)) c.if-turned.true
+returns-then-turned-clause-ran g c = λ files base is stands.
+    let so_far = c.requests.invariant.so_far files base is stands in
+    so_far_stopped (session_of c.args.world.now c.args.who files (seed_of c.args.dice.now) base) _ _ _ c.requests.answered _ _ _ _ c.in-Ok.turned.over (omega arith) so_far
+    (rw c.requests.invariant.same_seed at (c.in-Ok.ensures.turned files base so_far.outcome.own is so_far.moves.stands so_far.is_at)) c.if-turned.true
 
 pub returns-in-Err-clause-ran : goal.returns-in-Err-clause-ran
-returns-in-Err-clause-ran g c = λ key base is stands.
-    let so_far = c.requests.invariant.so_far key base is stands in
-    so_far_ended (session_of c.args.world.now c.args.who key (seed_of c.args.dice.now) base) _ _ _ c.requests.answered _ _ c.in-Err.how (omega arith) so_far
-    (rw c.requests.invariant.same_seed at (c.in-Err.ensures.ended key base so_far.outcome.own is so_far.moves.stands so_far.is_at))
+returns-in-Err-clause-ran g c = λ files base is stands.
+    let so_far = c.requests.invariant.so_far files base is stands in
+    so_far_ended (session_of c.args.world.now c.args.who files (seed_of c.args.dice.now) base) _ _ _ c.requests.answered _ _ c.in-Err.how (omega arith) so_far
+    (rw c.requests.invariant.same_seed at (c.in-Err.ensures.ended files base so_far.outcome.own is so_far.moves.stands so_far.is_at))
 
 pub returns-clause-ran : goal.returns-clause-ran
-returns-clause-ran g c = λ key base is stands.
+returns-clause-ran g c = λ files base is stands.
     let all : c.requests.answered ≡ request_limit = omega arith in
-    let so_far = rw all at (c.requests.invariant.so_far key base is stands) in
-    so_far_over (session_of c.args.world.now c.args.who key (seed_of c.args.dice.now) base) _ _ _ _ _ _ _ _ c.end_of_budget.result so_far
+    let so_far = rw all at (c.requests.invariant.so_far files base is stands) in
+    so_far_over (session_of c.args.world.now c.args.who files (seed_of c.args.dice.now) base) _ _ _ _ _ _ _ _ c.end_of_budget.result so_far
     c.end_of_budget.ensures.ends_stay c.end_of_budget.ensures.asked

@@ -1,7 +1,7 @@
 use Rattle.std.proofs.Common.{◌≡◌, ℕ, ◌*◌, ◌≤◌, List, [], length}
 use Rattle.munge_types.specs.StandsFor.{Stands}
 use Rattle.munge_types.specs.declared.history.Event.{Event}
-use Rattle.subkeys.specs.Subkeys.{IsOf}
+use Rattle.decode_rules.specs.Terms.{IsMadeOf, WorldFiles}
 use Rattle.wire_msg.specs.declared.kind.Side.TheVariants.{Requests}
 use Rattle.session_core.specs.AllLive.{AllLive}
 use Rattle.session_core.specs.RunSoFar.{RunSoFar}
@@ -14,9 +14,9 @@ use Rattle.session_core.proofs.run.answer_all.Given as goal
 -- what was answered so far, for each key and base history, and that nothing has failed
 abbrev pub invariant-requests : goal.invariant-requests
 invariant-requests g l = record {
-  so_far : (key : List ℕ) (base : List Event) → IsOf l.world.subkeys key
+  so_far : (files : WorldFiles) (base : List Event) → IsMadeOf l.world files
       → Stands (g.R.Replay.remembered l.initial.replay) base
-      → RunSoFar (session_of l.world l.who key (seed_of l.initial.dice) base)
+      → RunSoFar (session_of l.world l.who files (seed_of l.initial.dice) base)
       (things_of (outside_of (input_of (g.I.Source.left l.initial.input) (g.I.Source.ends l.initial.input)) (g.O.Sink.taken l.initial.out) (g.C.Clock.readings l.initial.clock)) (g.R.Replay.remembered l.initial.replay))
       (things_of (outside_of (input_of (g.I.Source.left l.input) (g.I.Source.ends l.input)) (g.O.Sink.taken l.out) (g.C.Clock.readings l.clock)) (g.R.Replay.remembered l.replay))
       l.answered l.feeder.begins (stage_of l.entries (place_of l.dice));

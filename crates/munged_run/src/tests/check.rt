@@ -1,0 +1,137 @@
+//! The command `check` over option files, and the files that they name.
+
+use super::fixture::Run;
+use std::alloc::{AllocError, Global};
+use std::test::Fail;
+
+/// An option file with every key that a small host needs.
+const EXAMPLE: &str = "\
+key = \"munge.key\"
+seed = \"munge.seed\"
+passwd = \"passwd\"
+group = \"group\"
+workers = 2
+
+[[socket]]
+path = \"ann.socket\"
+uid = 7
+gid = 7
+
+[[socket]]
+path = \"root.socket\"
+uid = 0
+gid = 0
+control = true
+";
+
+const PASSWD: &[u8] = b"ann:x:7:7:::\n";
+
+const GROUP: &[u8] = b"ops:x:50:bob,ann\n";
+
+/// A look at an option file of this front and the example, with a key file of 32 bytes and these
+/// maps.
+fn check(alloc: Global, front: &str, passwd: &[u8], group: &[u8]) -> Result<Run, AllocError> {
+    let mut run = Run::new(alloc)?;
+    run.words = String::from_str(alloc, "check\nmunged.toml")?;
+    let mut options = String::from_str(alloc, front)?;
+    options.push_str(EXAMPLE)?;
+    run.add_file("munged.toml", options.as_bytes())?;
+    run.add_file("munge.key", &[0; 32])?;
+    run.add_file("passwd", passwd)?;
+    run.add_file("group", group)?;
+    Ok(run)
+}
+
+#[test]
+fn example_is_accepted(rt: HostRuntime) -> Result<(), Fail> {
+    let mut run = check(rt.alloc(), "", PASSWD, GROUP)?;
+    run.output.extend_from_slice(b"ok\n")?;
+    run.assert_ends(&rt, 0, "the example")?;
+    let mut run = check(rt.alloc(), "", PASSWD, GROUP)?;
+    run.failing_write = 1;
+    run.assert_ends(&rt, 6, "the example, with an output that fails")?;
+    Ok(())
+}
+
+#[test]
+fn option_files_that_are_refused(rt: HostRuntime) -> Result<(), Fail> {
+    for (front, said) in [
+        ("skew = 301\n", "options: skew out of range 301"),
+        ("max_ttl = -1\n", "options: max_ttl out of range -1"),
+        ("zip = 1\n", "options: unknown zip"),
+        ("skew = \"\"\n", "options: wrong skew"),
+        ("key = \n", "options: not toml"),
+        (
+            "[[socket]]\npath = \"a\"\nuid = 1\ngid = 1\n[other]\n",
+            "options: unknown other",
+        ),
+    ] {
+        let mut run = check(rt.alloc(), front, PASSWD, GROUP)?;
+        run.said = String::from_str(rt.alloc(), said)?;
+        run.assert_ends(&rt, 4, front)?;
+    }
+    Ok(())
+}
+
+#[test]
+fn option_files_alone(rt: HostRuntime) -> Result<(), Fail> {
+    for (options, said) in [
+        ("", "options: missing key"),
+        ("key = ", "options: not toml"),
+        ("key = \"k\"", "options: missing socket"),
+        (
+            "key = \"k\"\n[[socket]]\npath = \"a\"\nuid = 1\n",
+            "options: missing socket.gid",
+        ),
+        (
+            "key = \"k\"\n[[socket]]\npath = \"a\"\nuid = 1\ngid = 1\n[[socket]]\npath = \"a\"\nuid = 2\ngid = 2\n",
+            "options: socket 1 has an earlier path",
+        ),
+    ] {
+        let mut run = Run::new(rt.alloc())?;
+        run.words = String::from_str(rt.alloc(), "check\nmunged.toml")?;
+        run.add_file("munged.toml", options.as_bytes())?;
+        run.said = String::from_str(rt.alloc(), said)?;
+        run.assert_ends(&rt, 4, options)?;
+    }
+    Ok(())
+}
+
+#[test]
+fn files_that_are_named(rt: HostRuntime) -> Result<(), Fail> {
+    // The read of a file that fails, the passwd file, the group file, the status, and what is said.
+    let table: [(u32, &[u8], &[u8], u8, &str); 8] = [
+        (1, PASSWD, GROUP, 2, "cannot read munged.toml"),
+        (2, PASSWD, GROUP, 2, "cannot read munge.key"),
+        (3, PASSWD, GROUP, 2, "cannot read passwd"),
+        (4, PASSWD, GROUP, 2, "cannot read group"),
+        (0, b"ann:x:7:7:::\nbob\n", b"bad", 4, "passwd: bad line 2"),
+        (4, b"bob\n", GROUP, 4, "passwd: bad line 1"),
+        (3, b"bob\n", b"bad", 2, "cannot read passwd"),
+        (0, PASSWD, b"#\n\nops:x:50\n", 4, "group: bad line 3"),
+    ];
+    for (fails, passwd, group, status, said) in table {
+        let mut run = check(rt.alloc(), "", passwd, group)?;
+        run.failing_file = fails;
+        run.said = String::from_str(rt.alloc(), said)?;
+        run.assert_ends(&rt, status, said)?;
+    }
+    Ok(())
+}
+
+#[test]
+fn files_that_are_too_long(rt: HostRuntime) -> Result<(), Fail> {
+    let comment = vec![in rt.alloc(); b'#'; 16_777_217]?;
+    let mut run = check(rt.alloc(), "", PASSWD, &comment[1..])?;
+    run.output.extend_from_slice(b"ok\n")?;
+    run.assert_ends(&rt, 0, "the longest group file")?;
+    let mut run = check(rt.alloc(), "", PASSWD, &comment)?;
+    run.said = String::from_str(rt.alloc(), "group: too long 16777217")?;
+    run.assert_ends(&rt, 4, "a longer one")?;
+    let mut run = Run::new(rt.alloc())?;
+    run.words = String::from_str(rt.alloc(), "check\nmunged.toml")?;
+    run.add_file("munged.toml", &comment[..65_538])?;
+    run.said = String::from_str(rt.alloc(), "options: too long 65537")?;
+    run.assert_ends(&rt, 4, "too long an option file")?;
+    Ok(())
+}
