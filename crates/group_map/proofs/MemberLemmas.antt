@@ -1,5 +1,5 @@
 -- Membership by two tables.
-use Rattle.std.proofs.Common.{◌≡◌, ℕ, nat_eq, Bool, true, false, ◌&&◌, ◌||◌, List, [], ◌∷◌, Option, Some, None, refl, sym, ◌∙◌, ap, subst}
+use Rattle.std.proofs.Common.{◌≡◌, ℕ, nat_eq, Bool, true, false, ◌&&◌, List, [], ◌∷◌, Option, Some, None, refl, sym, ◌∙◌, ap}
 use Rattle.std.specs.BTreeMap.{is_at}
 use Rattle.std.specs.List.{list_any}
 use Rattle.std.specs.Map.{lookup}
@@ -8,7 +8,7 @@ use Rattle.group_map.proofs.BoolLemmas.{both_ways, found, halves, list_any-and, 
 use Rattle.group_map.proofs.NameLemmas.{name_eq-itself, same_name}
 use Rattle.group_map.proofs.TableLemmas.{stands_beside-listings}
 use Rattle.group_map.specs.GroupLine.{groups_of}
-use Rattle.group_map.specs.GroupMap.{GroupTables, IsOf, has, is_among, listings, stands_beside}
+use Rattle.group_map.specs.GroupMap.{GroupTables, IsOf, is_among, stands_beside}
 use Rattle.group_map.specs.Membership.{is_member, joins, name_eq}
 use Rattle.group_map.specs.PasswdLine.{users_of}
 

@@ -1,9 +1,9 @@
 -- Texts cut at the first of their marks.
-use Rattle.std.proofs.Common.{◌≡◌, ℕ, ◌+◌, ◌<◌, ◌≤◌, nat_eq, nat_lt, Bool, true, false, not, cond, List, [], ◌∷◌, length, take, drop, Option, None, Some, ap, refl, sym, ◌∙◌, arith, inl, inr, ◌⊎◌}
-use Rattle.std.proofs.lemmas.Bool.{cases_Bool, ltb-true, ltb-false}
+use Rattle.std.proofs.Common.{◌≡◌, ℕ, ◌+◌, ◌<◌, ◌≤◌, nat_eq, nat_lt, Bool, true, false, ◌||◌, cond, List, [], ◌∷◌, ◌++◌, length, take, drop, Option, None, Some, ap, refl, sym, ◌∙◌, arith, inl, inr, true≢false}
+use Rattle.std.proofs.lemmas.Bool.{cases_Bool, eq-eqb, ltb-true, ltb-false, ne_eqb}
 use Rattle.std.proofs.lemmas.List.Splits.{slice_split_first, slice_split-cons_no, slice_split-cons_yes}
-use Rattle.std.specs.List.{slice_split, onto_first, position, position_or_len}
-use Rattle.group_map.specs.Lines.{closed, lines_of, line_feed, pieces_of}
+use Rattle.std.specs.List.{list_any, slice_split, onto_first, position, position_or_len}
+use Rattle.group_map.specs.Lines.{closed, lines_of, pieces_of}
 
 some_is : (test : Bool) (at place : ℕ) → cond test (Some at) None ≡ Some place → (test ≡ true) × (at ≡ place)
 some_is true at place is = (refl, cc is)
@@ -74,3 +74,40 @@ pub lines-whole : (text : List ℕ) → 0 < length text → pieces_of 10 text �
 unfolding lines_of
 lines-whole [] some whole = absurd (omega arith)
 lines-whole (byte ∷ bytes) some whole = ap closed whole
+
+-- ---- a line that has no mark
+
+-- neither of two tests passes
+neither : (a b : Bool) → a || b ≡ false → (a ≡ false) × (b ≡ false)
+neither true b is = absurd (true≢false is)
+neither false b is = (refl, is)
+
+-- the first byte is no mark, and the others are none
+no_mark : (mark byte : ℕ) (bytes : List ℕ) → list_any (nat_eq mark) (byte ∷ bytes) ≡ false
+    → (nat_eq byte mark ≡ false) × (list_any (nat_eq mark) bytes ≡ false)
+no_mark mark byte bytes none =
+    let parts = neither (nat_eq mark byte) (list_any (nat_eq mark) bytes) none in
+    (ne_eqb byte mark (λ same. true≢false (sym (eq-eqb mark byte (sym same)) ∙ parts.0)), parts.1)
+
+pieces-whole : (mark : ℕ) (line : List ℕ) → list_any (nat_eq mark) line ≡ false → pieces_of mark line ≡ line ∷ []
+pieces-whole mark [] none = refl
+pieces-whole mark (byte ∷ bytes) none =
+    let parts = no_mark mark byte bytes none in
+    slice_split-cons_no (λ b. nat_eq b mark) byte bytes parts.0 ∙ ap (onto_first byte) (pieces-whole mark bytes parts.1)
+
+pieces-first : (mark : ℕ) (line behind : List ℕ) → list_any (nat_eq mark) line ≡ false
+    → pieces_of mark (line ++ mark ∷ behind) ≡ line ∷ pieces_of mark behind
+pieces-first mark [] behind none = slice_split-cons_yes (λ b. nat_eq b mark) mark behind (eq-eqb mark mark refl)
+pieces-first mark (byte ∷ bytes) behind none =
+    let parts = no_mark mark byte bytes none in
+    slice_split-cons_no (λ b. nat_eq b mark) byte (bytes ++ mark ∷ behind) parts.0
+    ∙ ap (onto_first byte) (pieces-first mark bytes behind parts.1)
+
+-- what has no line feed is a line
+pub lines-last : (line : List ℕ) → list_any (nat_eq 10) line ≡ false → 0 < length line → lines_of line ≡ line ∷ []
+lines-last line none some =
+    lines-whole line some (pieces-whole 10 line none) ∙ ap (λ rest. line ∷ rest) (lines-none [] refl)
+
+-- so is what stands before a line feed
+pub lines-first : (line behind : List ℕ) → list_any (nat_eq 10) line ≡ false → lines_of (line ++ 10 ∷ behind) ≡ line ∷ lines_of behind
+lines-first line behind none = lines-cut (line ++ 10 ∷ behind) line behind (pieces-first 10 line behind none)

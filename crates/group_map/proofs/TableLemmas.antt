@@ -1,9 +1,9 @@
 -- Numbers beside names.
-use Rattle.std.proofs.Common.{◌≡◌, ℕ, nat_eq, Bool, true, false, ◌&&◌, ◌||◌, cond, List, [], ◌∷◌, ◌++◌, map, Option, Some, None, refl, sym, ◌∙◌, ap, subst, inl, inr, ◌⊎◌, true≢false}
-use Rattle.std.proofs.Math.Bool.{and-false, or-false}
+use Rattle.std.proofs.Common.{◌≡◌, ℕ, nat_eq, Bool, true, false, ◌&&◌, ◌||◌, List, [], ◌∷◌, map, refl, sym, ◌∙◌, ap}
+use Rattle.std.proofs.Math.Bool.{and-false}
 use Rattle.std.proofs.lemmas.List.Folds.{list_any-append}
-use Rattle.std.specs.List.{list_any, flat_map}
-use Rattle.group_map.specs.GroupMap.{has, is_among, listings, stands_beside}
+use Rattle.std.specs.List.{list_any}
+use Rattle.group_map.specs.GroupMap.{listings, stands_beside}
 use Rattle.group_map.specs.Membership.{name_eq}
 
 -- the number of each of a list of names

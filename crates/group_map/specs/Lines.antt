@@ -1,5 +1,5 @@
 -- The lines of a passwd or group file (passwd(5), group(5)), and what marks cut a text into.
-use Rattle.std.specs.Prelude.{ℕ, nat_eq, Bool, true, false, not, List, [], ◌∷◌, filter}
+use Rattle.std.specs.Prelude.{ℕ, nat_eq, Bool, true, not, List, [], ◌∷◌, filter}
 use Rattle.std.specs.List.{slice_split}
 
 -- the byte that ends a line

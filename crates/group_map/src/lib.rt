@@ -4,6 +4,7 @@
 mod cut;
 mod form;
 mod group;
+pub mod laws;
 mod map;
 mod name;
 mod names;

@@ -7,6 +7,7 @@
 mod aes;
 mod caller;
 mod gate;
+mod groups;
 mod lane;
 mod pace;
 mod rate;
@@ -20,6 +21,7 @@ fn main(rt: HostRuntime) -> io::Result<ExitCode> {
         match word.as_str() {
             "aes" => aes::run(&rt)?,
             "gate" => gate::run(&rt, rt.alloc())?,
+            "groups" => groups::run(&rt, rt.alloc())?,
             "replay" => replay::run(&rt, rt.alloc())?,
             other => {
                 eprintln!(rt; "munge_bench: {other}: nothing of that name is timed")?;

@@ -31,7 +31,7 @@ impl Pace {
     }
 
     /// Tenths of a nanosecond for each pair, rounded down.
-    fn tenths(&self) -> u128
+    pub(crate) fn tenths(&self) -> u128
         ensures { result ≡ self.now.nanos * 10 / max self.now.pairs 1 }
     {
         u128::from(self.nanos) * 10 / u128::from(self.pairs.max(1))

@@ -1,4 +1,4 @@
-use Rattle.std.proofs.Common.{◌≡◌, length, refl, None, Some, arith}
+use Rattle.std.proofs.Common.{refl, arith}
 use Rattle.group_map.proofs.LineLemmas.{group_from-unnamed, group_from-no_gid, group_from-some}
 use Rattle.group_map.proofs.PieceLemmas.{more_pieces}
 use Rattle.group_map.specs.GroupLine.{group_of}

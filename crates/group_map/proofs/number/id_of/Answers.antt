@@ -1,4 +1,4 @@
-use Rattle.std.proofs.Common.{◌≡◌, ◌≤◌, length, refl, ap, sym, ◌∙◌, arith}
+use Rattle.std.proofs.Common.{length, refl, ap, sym, ◌∙◌, arith}
 use Rattle.std.proofs.lemmas.Bool.{le-leb, lt-leb}
 use Rattle.group_map.proofs.DigitLemmas.{held, held-from, id_of-held, id_of-size}
 use Rattle.group_map.proofs.number.id_of.Goals as goal

@@ -1,9 +1,8 @@
-use Rattle.std.proofs.Common.{◌≡◌, ◌&&◌, ◌+◌, ◌-◌, ◌*◌, ◌<◌, ◌^◌, ◌≤◌, ℕ, List, [], ◌∷◌, take, get_or, length, arith, sym, ◌∙◌, ap}
+use Rattle.std.proofs.Common.{◌&&◌, take, get_or, arith, sym, ◌∙◌}
 use Rattle.std.proofs.lemmas.List.{take_more}
 use Rattle.std.proofs.lemmas.List.Folds.{list_all_more}
 use Rattle.group_map.proofs.DigitLemmas.{small_power, next_power, value_of-more}
 use Rattle.std.specs.Char.{is_ascii_digit}
-use Rattle.group_map.specs.Numbers.{value_of}
 use Rattle.group_map.proofs.number.value_of.Goals as goal
 
 pub overflow_mul-value : goal.overflow_mul-value

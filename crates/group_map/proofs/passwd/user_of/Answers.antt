@@ -1,4 +1,4 @@
-use Rattle.std.proofs.Common.{◌≡◌, length, refl, None, Some, arith}
+use Rattle.std.proofs.Common.{refl, arith}
 use Rattle.group_map.proofs.LineLemmas.{user_from-unnamed, user_from-no_uid, user_from-no_gid, user_from-some}
 use Rattle.group_map.proofs.PieceLemmas.{more_pieces}
 use Rattle.group_map.specs.PasswdLine.{user_of}

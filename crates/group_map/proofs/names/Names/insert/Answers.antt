@@ -1,4 +1,3 @@
-use Rattle.std.proofs.Common.{◌≡◌}
 use Rattle.group_map.proofs.NameLemmas.{inserted}
 use Rattle.group_map.proofs.names.Names.insert.Goals as goal
 
