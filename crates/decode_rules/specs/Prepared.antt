@@ -43,8 +43,8 @@ abbrev pub IsPrepared : Terms → (moment : ℕ) → (text : List ℕ) → Prepa
 IsPrepared terms moment text (prepared.Refused reply) = IsRefused terms moment text reply
 IsPrepared terms moment text (prepared.Ready ready) = IsReady terms moment text ready
 
--- what the rules 10 to 12 make of a credential: the reply by the first that is broken, or its pair and
--- the reply but for what the history says
+-- what the rules 10 to 12 make of a credential: the reply by the first that is broken, or its pair
+-- and the reply but for what the history says
 abbrev pub IsJudged : Terms → (moment : ℕ) → Credential → Prepared → Type 0
 IsJudged terms moment credential (prepared.Refused reply) =
     IsBarred (caller_breaks terms moment credential) credential reply

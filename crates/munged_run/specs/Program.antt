@@ -23,8 +23,8 @@ pub record IsUsual (settings : Settings) : Type 0 where
   pub skew : settings.skew ≡ 300
   pub addr : settings.addr ≡ 0 ∷ 0 ∷ 0 ∷ 0 ∷ []
 
--- the session that was asked for, under this key, with these settings and this seed, without groups,
--- from the empty history on
+-- the session that was asked for, under this key, with these settings and this seed, without
+-- groups, from the empty history on
 abbrev pub session_under : AskedSession → (key : List ℕ) → Settings → (seed : Option (List ℕ))
     → Session
 session_under asked key settings seed =
@@ -50,8 +50,8 @@ pub record Given : Type 0 where
 abbrev pub given_of : (words : List (List ℕ)) → (files : Option (List (List ℕ × List ℕ))) → Given
 given_of words files = record { words = words; files = files }
 
--- the session that was asked for ran, under the key that was read and with the seed that was read if
--- a file is named for it
+-- the session that was asked for ran, under the key that was read and with the seed that was read
+-- if a file is named for it
 pub record Answered (files : Option (List (List ℕ × List ℕ))) (asked : AskedSession)
     (before after : Outside) (how : Ending) : Type 0 where
   pub key : List ℕ
@@ -66,8 +66,8 @@ pub record Answered (files : Option (List (List ℕ × List ℕ))) (asked : Aske
       (things_of before nothing_remembered) (things_of after replay)
   pub how_is : how ≡ after_session end.how
 
--- What the session that was asked for comes to, where `untouched` says that streams and clock are as
--- before.
+-- What the session that was asked for comes to, where `untouched` says that streams and clock are
+-- as before.
 pub data SessionCame (files : Option (List (List ℕ × List ℕ))) (asked : AskedSession)
     (untouched : Type 0) (before after : Outside) (how : Ending) : Type 0 where
   -- there was no key

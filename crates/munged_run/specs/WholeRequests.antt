@@ -17,8 +17,8 @@ use Rattle.munge_types.specs.declared.settings.Settings.{Settings}
 use Rattle.munged_run.specs.Program.{Given, IsUsual, session_under}
 use Rattle.munged_run.specs.SeedFile.{TellsSeed}
 
--- The files of a session hold a key, and a seed if one is named for it, and what is left of the input
--- is whole requests, no more of them than one session answers.
+-- The files of a session hold a key, and a seed if one is named for it, and what is left of the
+-- input is whole requests, no more of them than one session answers.
 pub record WholeSession (files : Option (List (List ℕ × List ℕ))) (asked : AskedSession)
     (left : Option (List ℕ)) : Type 0 where
   pub told : List (List ℕ × List ℕ)
@@ -39,8 +39,8 @@ pub record WholeRequests (given : Given) (left : Option (List ℕ)) : Type 0 whe
   pub asked_for : command_of given.words ≡ Some (command.session asked)
   pub whole : WholeSession given.files asked left
 
--- All of the input was read, and what was written is the replies to all requests, at the clock's next
--- readings.
+-- All of the input was read, and what was written is the replies to all requests, at the clock's
+-- next readings.
 pub record AnswersAll (asked : AskedSession) (key : List ℕ) (seed : Option (List ℕ))
     (requests : List Message) (before after : Outside) : Type 0 where
   pub settings : Settings

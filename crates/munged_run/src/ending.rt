@@ -27,8 +27,8 @@ pub enum Ending<'a> {
     NoCommand,
     /// The file of this name could not be read.
     Unread(&'a str),
-    /// So many bytes were read of the key file or the seed file of this name: fewer than 32, or of a
-    /// key file more than 1024.
+    /// So many bytes were read of the key file or the seed file of this name: fewer than 32, or of
+    /// a key file more than 1024.
     WrongSize(&'a str, u64),
     /// The option file is refused; for want of memory it is not, but `NoMemory` is the end.
     BadOptions(&'a OptionRefused),
@@ -101,7 +101,8 @@ impl<'a> Ending<'a> {
     /// do. A fault of that stream is passed over. No memory is taken.
     pub fn say_on<E: Sink>(self, err: &mut E)
         ensures { Says (errors_of (E.taken err.old) (E.write_faults err.old))
-            (errors_of (E.taken err.new) (E.write_faults err.new)) (line_of (ending_told self.entry)) }
+            (errors_of (E.taken err.new) (E.write_faults err.new))
+            (line_of (ending_told self.entry)) }
     {
         let _ = write_line(err, self.line());
     }

@@ -10,8 +10,8 @@ use crate::ending::Ending;
 use byte_io::{FileFail, Files};
 use std::alloc::Global;
 
-/// The bytes of the file of that name, or its first `most` where it has more; or how the program ends
-/// without them.
+/// The bytes of the file of that name, or its first `most` where it has more; or how the program
+/// ends without them.
 pub fn read_file<'a, F: Files>(
     alloc: Global,
     files: &mut F,

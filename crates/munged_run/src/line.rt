@@ -51,7 +51,8 @@ impl Line<'_> {
 
 /// Writes a line, up to the first write that fails.
 pub fn write_line<E: Sink>(err: &mut E, line: Line<'_>) -> Result<(), Failed>
-    ensures written { OnOk result (Appends (E.taken err.old) (E.taken err.new) (text_of line.entry)) }
+    ensures written { OnOk result
+        (Appends (E.taken err.old) (E.taken err.new) (text_of line.entry)) }
     ensures failed { OnErr result (Rose (E.write_faults err.old) (E.write_faults err.new)) }
 {
     put(err, line.front)?;

@@ -23,8 +23,8 @@ use std::alloc::Global;
 /// The most bytes that are read of a passwd or a group file, one more than it may have.
 const MAP_ROOM: u32 = 16_777_217;
 
-/// Looks over the passwd file and the group file of these names, as far as they are named. The lines
-/// of the passwd file are looked at before the group file is read.
+/// Looks over the passwd file and the group file of these names, as far as they are named. The
+/// lines of the passwd file are looked at before the group file is read.
 pub fn check_maps<'a, F: Files>(
     alloc: Global,
     files: &mut F,

@@ -41,8 +41,10 @@ pub fn munged_run<F: Files, I: Source, O: Sink, E: Sink, C: Clock>(
         (O.taken out.old) (C.readings clock.old) in
         let after = outside_of (input_of (I.left input.new) (I.ends input.new))
         (O.taken out.new) (C.readings clock.new) in
-        let same = same_of ((input.new ≡ input.old) × (clock.new ≡ clock.old)) (out.new ≡ out.old) in
-        Ended (ComesTo (given_of (map string_bytes words.now) (F.files files.old)) same before after)
+        let idle = (input.new ≡ input.old) × (clock.new ≡ clock.old) in
+        let same = same_of idle (out.new ≡ out.old) in
+        let given = given_of (map string_bytes words.now) (F.files files.old) in
+        Ended (ComesTo given same before after)
         (Says (errors_of (E.taken err.old) (E.write_faults err.old))
         (errors_of (E.taken err.new) (E.write_faults err.new))) result }
     ensures no_command { (result ≡ bad_words)

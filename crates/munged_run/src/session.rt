@@ -22,9 +22,8 @@ use session_core::session;
 use std::alloc::Global;
 use std::hash::{BuildHasherDefault, FoldHasher};
 
-/// Runs the session that was asked for, with the usual settings, without groups and with an empty replay
-/// state, and says
-/// how the program ends. The key file is read first, then the seed file.
+/// Runs the session that was asked for, with the usual settings, without groups and with an empty
+/// replay state, and says how the program ends. The key file is read first, then the seed file.
 pub fn run_session<'a, F: Files, I: Source, O: Sink, C: Clock>(
     alloc: Global,
     asked: &SessionCommand<'a>,

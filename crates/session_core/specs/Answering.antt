@@ -60,8 +60,9 @@ pub record Outcome : Type 0 where
   pub replies : List ℕ
   pub own : Own
 
--- A decode request with this text, at this moment, after the session's own events, has this reply and
--- leaves these events of the session's own. The place of its entry counts the session's own events.
+-- A decode request with this text, at this moment, after the session's own events, has this reply
+-- and leaves these events of the session's own. The place of its entry counts the session's own
+-- events.
 pub record Decodes (session : Session) (own : List Event) (moment : ℕ) (text reply : List ℕ)
     (next : List Event) : Type 0 where
   pub finding : Finding
@@ -73,7 +74,8 @@ pub record Decodes (session : Session) (own : List Event) (moment : ℕ) (text r
       next ≡ after_decode session.terms.settings moment before finding
 
 -- an encode request is answered, with one reading of the clock
-pub record AnswersAsk (session : Session) (own : Own) (ask : EncodeAsk) (outcome : Outcome) : Type 0 where
+pub record AnswersAsk (session : Session) (own : Own) (ask : EncodeAsk) (outcome : Outcome)
+    : Type 0 where
   pub moment : ℕ
   pub readings_are : outcome.readings ≡ moment ∷ []
   pub encodes : Encodes session.terms session.seed own.place moment (asked_by ask)
@@ -81,7 +83,8 @@ pub record AnswersAsk (session : Session) (own : Own) (ask : EncodeAsk) (outcome
   pub same_events : outcome.own.events ≡ own.events
 
 -- a decode request is answered, with one reading of the clock
-pub record AnswersText (session : Session) (own : Own) (text : List ℕ) (outcome : Outcome) : Type 0 where
+pub record AnswersText (session : Session) (own : Own) (text : List ℕ) (outcome : Outcome)
+    : Type 0 where
   pub moment : ℕ
   pub readings_are : outcome.readings ≡ moment ∷ []
   pub decodes : Decodes session own.events moment text outcome.replies outcome.own.events
@@ -146,8 +149,8 @@ pub record First (session : Session) (own : Own) (request : Message) (outcome : 
   pub later : Later first.own others
   pub outcome_is : outcome ≡ joined first others
 
--- requests of a session that has done this of its own are answered, one after another, and this comes
--- of them
+-- requests of a session that has done this of its own are answered, one after another, and this
+-- comes of them
 abbrev pub Run : Session → Own → List Message → Outcome → Type 0
 Run session own [] outcome = outcome ≡ nothing_came own
 Run session own (request ∷ requests) outcome =

@@ -5,8 +5,8 @@ use Rattle.munge_types.specs.declared.identity.Identity.{Identity}
 use Rattle.decode_rules.specs.Terms.{Terms, WorldFiles, terms_of}
 use Rattle.decode_rules.specs.declared.world.World.{World}
 
--- the files, the settings and the caller; the seed, if there is one; and the history that the replay
--- state stood for when the session began
+-- the files, the settings and the caller; the seed, if there is one; and the history that the
+-- replay state stood for when the session began
 pub record Session : Type 0 where
   pub terms : Terms
   pub seed : Option (List ℕ)

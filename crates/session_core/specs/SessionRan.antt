@@ -63,8 +63,8 @@ pub record IsCutOff (session : Session) (own : Own) (beyond : Beyond) : Type 0 w
   pub events_are : beyond.events ≡ outcome.own.events
   pub written_is : IsProperPrefix beyond.written outcome.replies
 
--- such a request was read and a reading taken for it, and there was no more of it than the purge that
--- comes before a decode request
+-- such a request was read and a reading taken for it, and there was no more of it than the purge
+-- that comes before a decode request
 pub record IsUnanswered (session : Session) (own : List Event) (beyond : Beyond) : Type 0 where
   pub request : Message
   pub whole : IsTimedRequest beyond.read request
@@ -74,7 +74,8 @@ pub record IsUnanswered (session : Session) (own : List Event) (beyond : Beyond)
   pub events_are : beyond.events ≡ before_answer session.base own moment request
 
 -- What a session had done of the next request, for each way to end but by Stop. The answers so far
--- are so many, and end at the byte `begins` of the input, which came to its end where `ended` holds.
+-- are so many, and end at the byte `begins` of the input, which came to its end where `ended`
+-- holds.
 abbrev pub Leaves : Session → Own → (answered begins : ℕ) → (ended : Type 0) → HowEnded → Beyond
     → Type 0
 Leaves session own answered begins ended Done beyond =
@@ -95,7 +96,8 @@ Leaves session own answered begins ended NoMemory beyond =
 abbrev pub GoesOn : Session → List Message → Type 0
 GoesOn session requests = list_any (is_last session.terms.who) requests ≡ false
 
--- the last of these requests ends the session, and none before it: Stop, of a caller who has control
+-- the last of these requests ends the session, and none before it: Stop, of a caller who has
+-- control
 pub record IsStopped (session : Session) (requests : List Message) : Type 0 where
   pub before : List Message
   pub requests_are : requests ≡ before ++ Stop ∷ []

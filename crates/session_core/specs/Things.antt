@@ -10,7 +10,8 @@ pub record Input : Type 0 where
   pub left : Option (List ℕ)
   pub ends : ℕ
 
--- a source; the bytes that a sink took, and the readings that a clock will give, where they are told
+-- a source; the bytes that a sink took, and the readings that a clock will give, where they are
+-- told
 pub record Outside : Type 0 where
   pub input : Input
   pub taken : Option (List ℕ)

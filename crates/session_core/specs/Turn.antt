@@ -14,8 +14,8 @@ use Rattle.session_core.specs.declared.answer.Unanswered.{Unanswered}
 use Rattle.session_core.specs.declared.answer.Unanswered.TheVariants.{ClockFault, NoMemory}
 use Rattle.session_core.specs.declared.end.HowEnded.{HowEnded}
 
--- the state stands for the events before a decode request is answered, and there are so many more of
--- them
+-- the state stands for the events before a decode request is answered, and there are so many more
+-- of them
 pub record IsPurged (state : Remembered) (base own : List Event) (moment more : ℕ) : Type 0 where
   pub stands : Stands state (base ++ before_decode base own moment)
   pub count : length (before_decode base own moment) ≡ length own + more
@@ -29,7 +29,8 @@ pub record IsDecoded (session : Session) (own : List Event) (moment : ℕ) (text
   pub stands : Stands state (session.base ++ next)
   pub count : length next ≡ entries
 
--- How far a session has come: how many events it has made, and the place of the next word of its seed.
+-- How far a session has come: how many events it has made, and the place of the next word of its
+-- seed.
 pub record Stage : Type 0 where
   pub entries : ℕ
   pub place : ℕ
@@ -68,15 +69,16 @@ pub record IsBegun (session : Session) (own : List Event) (request : Message)
   pub stands : Stands state (session.base ++ before_answer session.base own moment request)
 
 -- what was done of a request that was not answered, for each cause
-abbrev pub LeavesUnanswered : Session → (own : List Event) → Message → (readings readings' : Option (List ℕ))
-    → Remembered → Unanswered → Type 0
+abbrev pub LeavesUnanswered : Session → (own : List Event) → Message
+    → (readings readings' : Option (List ℕ)) → Remembered → Unanswered → Type 0
 LeavesUnanswered session own request readings readings' state ClockFault =
     (takes_reading request ≡ true) × IsLeft session own readings readings' state
 LeavesUnanswered session own request readings readings' state NoMemory =
     IsLeft session own readings readings' state
     ⊎ IsBegun session own request readings readings' state
 
--- One more request was answered, in full: the next begins at this byte, and the session is over or not.
+-- One more request was answered, in full: the next begins at this byte, and the session is over or
+-- not.
 pub record IsTurned (session : Session) (own : Own) (before after : Things) (begins begins' : ℕ)
     (over : Bool) (stage : Stage) : Type 0 where
   pub request : Message

@@ -55,8 +55,8 @@ pub(crate) fn make_answer<C: Clock, R: Replay>(
     requires fits { IsRequest request.now }
     requires few { entries + 2 < 2 ^ 64 }
 
-    ensures answered { (files : WorldFiles) (base : List Event) (own : Own) → IsMadeOf world.now files
-        → Stands (R.remembered replay.old) (base ++ own.events)
+    ensures answered { (files : WorldFiles) (base : List Event) (own : Own)
+        → IsMadeOf world.now files → Stands (R.remembered replay.old) (base ++ own.events)
         → IsAt own (stage_of entries (place_of dice.old))
         → IfOk result (λ answer. IsAnswered
         (session_of world.now who files (seed_of dice.old) base) own request.now answer.reply.items
@@ -106,7 +106,8 @@ pub(crate) fn make_answer<C: Clock, R: Replay>(
 
 /// The answer to Stop: only a caller who has control may stop.
 fn bye(alloc: Global, who: Identity) -> Result<Vec<u8>, NoMemory>
-    ensures { IfOk result (λ reply. reply.items ≡ frame_of (Bye (status_number (stop_status who)))) }
+    ensures { let status = status_number (stop_status who) in
+        IfOk result (λ reply. reply.items ≡ frame_of (Bye status)) }
 {
     let status = if who.control {
         Status::Success

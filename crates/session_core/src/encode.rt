@@ -24,8 +24,9 @@ pub(crate) fn encode(
     moment: u32,
     ask: &EncodeAsk,
 ) -> Result<Vec<u8>, NoMemory>
-    ensures encoded { (files : WorldFiles) → IsMadeOf world.now files → IfOk result (λ reply. Encodes
-        (terms_of world.now who files) (seed_of dice.old) (place_of dice.old) moment
+    ensures encoded { (files : WorldFiles) → IsMadeOf world.now files
+        → IfOk result (λ reply. Encodes (terms_of world.now who files)
+        (seed_of dice.old) (place_of dice.old) moment
         (asked_by ask.now) reply.items (place_of dice.new)) }
     ensures same_seed { seed_of dice.new ≡ seed_of dice.old }
 {
@@ -48,8 +49,9 @@ fn seal_reply(
     ask: &EncodeAsk,
     drawn: &Drawn,
 ) -> Result<Vec<u8>, NoMemory>
-    ensures { (files : WorldFiles) → IsMadeOf world.now files → IfOk result (λ reply. IsSealReply
-        (terms_of world.now who files) moment (asked_by ask.now) drawn.now.salt drawn.now.iv reply.items) }
+    ensures { (files : WorldFiles) → IsMadeOf world.now files
+        → IfOk result (λ reply. IsSealReply (terms_of world.now who files) moment
+        (asked_by ask.now) drawn.now.salt drawn.now.iv reply.items) }
 {
     match seal(
         alloc,

@@ -67,11 +67,12 @@ pub fn no_pair_is_accepted_twice()
     munge_types::laws::no_pair_is_accepted_twice();
 }
 
-/// What a session sealed opens. The text of an encode reply with status 0, with any spaces round it,
-/// opens in a decode request to the UID and GID of the caller who asked for it, to the restrictions
-/// and the payload that were asked for, and to the moment of the request; or the reply says by its
-/// number which of the rules 10 to 14 is broken. The two are any requests of one session: those of
-/// one run, whatever comes before, between and after (`each_request_is_answered`), or of several.
+/// What a session sealed opens. The text of an encode reply with status 0, with any spaces round
+/// it, opens in a decode request to the UID and GID of the caller who asked for it, to the
+/// restrictions and the payload that were asked for, and to the moment of the request; or the reply
+/// says by its number which of the rules 10 to 14 is broken. The two are any requests of one
+/// session: those of one run, whatever comes before, between and after
+/// (`each_request_is_answered`), or of several.
 pub fn what_was_sealed_opens()
     ensures { (session : Session) (own own' : Own) (ask : EncodeAsk) (text before after : List ℕ)
         (outcome outcome' : Outcome) (sealed : AnswersAsk session own ask outcome)

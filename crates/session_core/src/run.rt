@@ -31,9 +31,9 @@ const PIECE_SIZE: usize = 65_536;
 /// Reads requests from `input`, one after another, and writes a reply to each to `out`, until the
 /// input ends between two of them, a caller who has control asks to stop, something fails, or
 /// 1,048,576 requests are answered and one more byte comes. For each encode and decode request the
-/// clock is read once, after it was read whole. Salts and initial vectors are drawn from the seed of
-/// 32 bytes, from its first word on; without a seed nothing is sealed. A session that ended by a fault
-/// or for want of memory writes nothing more.
+/// clock is read once, after it was read whole. Salts and initial vectors are drawn from the seed
+/// of 32 bytes, from its first word on; without a seed nothing is sealed. A session that ended by a
+/// fault or for want of memory writes nothing more.
 pub fn session<I: Source, O: Sink, C: Clock, R: Replay>(
     alloc: Global,
     input: &mut I,
