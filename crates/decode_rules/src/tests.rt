@@ -57,17 +57,17 @@ fn assert_says(
 #[test]
 fn texts_that_are_refused(rt: HostRuntime) -> Result<(), Fail> {
     let world = usual_world()?;
-    let table: [(&[u8], u32, Status, u8, &[u8]); 4] = [
-        (b"", 1000, Status::BadCredential, 1, b""),
-        (b"MUNGE:AwQFAAE=:", 1000, Status::BadRealm, 6, b""),
-        (&SEALED[1..], 1000, Status::BadCredential, 1, b""),
-        (SEALED, 699, Status::Rewound, 12, SHOWN),
+    // The text, the moment, the status, the rule, and the size of the reply's body with its content.
+    let table: [(&[u8], u32, Status, u8, u8, &[u8]); 4] = [
+        (b"", 1000, Status::BadCredential, 1, 10, b""),
+        (b"MUNGE:AwQFAAE=:", 1000, Status::BadRealm, 6, 10, b""),
+        (&SEALED[1..], 1000, Status::BadCredential, 1, 10, b""),
+        (SEALED, 699, Status::Rewound, 12, 45, SHOWN),
     ];
-    for (text, moment, status, rule, content) in table {
+    for (text, moment, status, rule, size, content) in table {
         let Prepared::Refused(reply) = prepare(rt.alloc(), &world, WHO, moment, text)? else {
             panic!(rt; "the text comes to something else");
         };
-        let size = 10 + content.len() as u8;
         assert_says(
             &rt,
             rt.alloc(),

@@ -12,6 +12,7 @@ mod lane;
 mod pace;
 mod rate;
 mod replay;
+mod session;
 
 use std::process::ExitCode;
 use std::{env, io};
@@ -23,6 +24,7 @@ fn main(rt: HostRuntime) -> io::Result<ExitCode> {
             "gate" => gate::run(&rt, rt.alloc())?,
             "groups" => groups::run(&rt, rt.alloc())?,
             "replay" => replay::run(&rt, rt.alloc())?,
+            "session" => session::run(&rt, rt.alloc())?,
             other => {
                 eprintln!(rt; "munge_bench: {other}: nothing of that name is timed")?;
                 return Ok(ExitCode::from(2));

@@ -24,7 +24,7 @@ impl Pace {
     }
 
     /// Pairs a second, rounded down.
-    fn a_second(&self) -> u128
+    pub(crate) fn a_second(&self) -> u128
         ensures { result ≡ self.now.pairs * 1000000000 / max self.now.nanos 1 }
     {
         u128::from(self.pairs) * NANOS_OF_A_SECOND / u128::from(self.nanos.max(1))
