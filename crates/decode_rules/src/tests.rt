@@ -100,6 +100,34 @@ fn text_by_each_verdict(rt: HostRuntime) -> Result<(), Fail> {
     Ok(())
 }
 
+/// The same for members of the GID 50 alone: the fields are
+/// `cipher=4 mac=5 payload=hello for_gid=50`.
+const FOR_A_GROUP: &[u8] =
+    b"MUNGE:AwQFAADlal1AKL2GU7gZ0r0a7Y2gSLhAHTTnfB0Dk0RnV31NOTtqQ/3jmQgQpuCKizH/78+viP5WqOtWR1qKjIqngCf9WLvQ8KNDW4ISUCtI/fQd/REQo4yCBU+JKRENsuxajpo=:";
+
+#[test]
+fn text_for_a_group(rt: HostRuntime) -> Result<(), Fail> {
+    let passwd = b"ann:x:7:7:::";
+    let table: [(&[u8], bool); 3] = [
+        (b"ops:x:50:bob,ann", true),
+        (b"", false),
+        (b"ops:x:50:bob\nann:x:51:ann", false),
+    ];
+    for (group, opens) in table {
+        let mut world = usual_world()?;
+        world.groups = GroupMap::read(rt.alloc(), passwd, group)?;
+        match prepare(rt.alloc(), &world, WHO, 1000, FOR_A_GROUP)? {
+            Prepared::Ready(_) => assert!(rt; opens, "it opens"),
+            Prepared::Refused(reply) => {
+                assert!(rt; !opens, "it is refused");
+                let said = (Status::Unauthorized, 11);
+                assert_says(&rt, rt.alloc(), &reply, said, 10, [255; 8], b"")?;
+            }
+        }
+    }
+    Ok(())
+}
+
 /// What a value has to be to be handed to threads and shared by them.
 fn crosses_threads<T: Send + Sync>(_: &T) {}
 
