@@ -184,16 +184,18 @@ fn files_that_are_named(rt: HostRuntime) -> Result<(), Fail> {
 
 #[test]
 fn files_that_are_too_long(rt: HostRuntime) -> Result<(), Fail> {
-    let comment = vec![in rt.alloc(); b'#'; 16_777_217]?;
-    let mut run = check(rt.alloc(), "", PASSWD, &comment[1..])?;
+    let comment = vec![in rt.alloc(); b'#'; 16_777_216]?;
+    let mut run = check(rt.alloc(), "", PASSWD, &comment)?;
     run.output.extend_from_slice(b"ok\n")?;
     run.assert_ends(&rt, 0, "the longest group file")?;
+    let comment = vec![in rt.alloc(); b'#'; 16_777_217]?;
     let mut run = check(rt.alloc(), "", PASSWD, &comment)?;
     run.said = String::from_str(rt.alloc(), "group: too long 16777217")?;
     run.assert_ends(&rt, 4, "a longer one")?;
+    let options = vec![in rt.alloc(); b'#'; 65_538]?;
     let mut run = Run::new(rt.alloc())?;
     run.words = String::from_str(rt.alloc(), "check\nmunged.toml")?;
-    run.add_file("munged.toml", &comment[..65_538])?;
+    run.add_file("munged.toml", &options)?;
     run.said = String::from_str(rt.alloc(), "options: too long 65537")?;
     run.assert_ends(&rt, 4, "too long an option file")?;
     Ok(())
