@@ -1,5 +1,5 @@
 -- The words that salts and initial vectors are drawn from.
-use Rattle.std.specs.Prelude.{ℕ, ◌+◌, ◌%◌, ◌^◌, List, ◌++◌}
+use Rattle.std.specs.Prelude.{◌≡◌, ℕ, ◌+◌, ◌<◌, ◌%◌, ◌^◌, List, ◌++◌}
 use Rattle.munge_types.specs.BigEndian.{be32}
 use Rattle.rand_chacha.specs.ChaCha.{word_at, key_of}
 
@@ -7,6 +7,12 @@ use Rattle.rand_chacha.specs.ChaCha.{word_at, key_of}
 pub record DiceState : Type 0 where
   pub seed : List ℕ
   pub place : ℕ
+
+-- the generator of this seed, on its stream 0, at a place of it
+pub record IsGenerator (seed key : List ℕ) (stream place : ℕ) : Type 0 where
+  pub key_is : key ≡ key_of seed
+  pub stream_is : stream ≡ 0
+  pub place_within : place < 2 ^ 68
 
 -- The word at a place of the ChaCha20 stream 0 of the seed (RFC 8439, ten double rounds, with a
 -- counter of 64 bits and a nonce of 64), as four big-endian bytes. The stream repeats after 2 ^ 68

@@ -18,16 +18,14 @@ pub struct Dice {
 }
 
 impl Model for Dice {
-    ghost use Rattle.std.specs.Prelude.{◌≡◌, ◌<◌, ◌^◌};
-    ghost use Rattle.rand_chacha.specs.ChaCha.{key_of};
-    ghost use Rattle.cred_seal.specs.Dice.{DiceState};
+    ghost use Rattle.cred_seal.specs.Dice.{DiceState, IsGenerator};
 
     ghost Value = { DiceState };
 
     ghost view = { λ dice. record { seed = dice.seed; place = dice.words.word_pos } };
 
-    ghost invariant = { λ dice. (dice.words.key ≡ key_of dice.seed) × (dice.words.stream ≡ 0)
-        × (dice.words.word_pos < 2 ^ 68) };
+    ghost invariant = { λ dice.
+        IsGenerator dice.seed dice.words.key dice.words.stream dice.words.word_pos };
 }
 
 /// What was drawn for one credential.

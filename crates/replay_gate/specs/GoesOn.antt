@@ -1,5 +1,5 @@
 -- How one history goes on from another.
-use Rattle.std.specs.Prelude.{◌≡◌, false, nat_lt, cond, ℕ, List, ◌++◌, length}
+use Rattle.std.specs.Prelude.{◌≡◌, false, nat_lt, if◌then◌else◌, ℕ, List, ◌++◌, length}
 use Rattle.munge_types.specs.declared.history.Event.{Event}
 use Rattle.replay_gate.specs.Makers.{any_by}
 
@@ -11,4 +11,4 @@ pub record GoesOn (numbers : List ℕ) (seen longer : List Event) : Type 0 where
 
 -- the longer of two histories, and the first where they are equally long
 abbrev pub longer_of : List Event → List Event → List Event
-longer_of first second = cond (nat_lt (length first) (length second)) second first
+longer_of first second = if nat_lt (length first) (length second) then second else first

@@ -1,5 +1,5 @@
 -- The views that the steps of a call make of a pass's view.
-use Rattle.std.specs.Prelude.{◌≡◌, ℕ, ◌+◌, ◌-◌, max, nat_lt, cond, List, [], ◌∷◌, ◌++◌}
+use Rattle.std.specs.Prelude.{◌≡◌, ℕ, ◌+◌, ◌-◌, max, nat_lt, if◌then◌else◌, List, [], ◌∷◌, ◌++◌}
 use mathlib.Core.Option.{some}
 use lib.ListN.{get_elem?}
 use Rattle.munge_types.specs.declared.history.Event.{Event}
@@ -47,7 +47,8 @@ at_stage stage v = record v { stage = stage }
 
 -- the view after the ticket word was read
 abbrev pub heard : ℕ → View → View
-heard found v = record v { highest = found; stage = cond (nat_lt found worn_at) Asking Resting }
+heard found v =
+    record v { highest = found; stage = if nat_lt found worn_at then Asking else Resting }
 
 -- the view of a pass that has read a ticket word and drawn a ticket
 abbrev pub with_ticket : (found ticket : ℕ) → View → View

@@ -1,5 +1,5 @@
 -- A frame whose head is whole, as far as its body came.
-use Rattle.std.specs.Prelude.{◌≡◌, ℕ, ◌+◌, ◌<◌, ◌≤◌, ◌⊎◌, List, [], ◌++◌, length, take, nat_eq, cond}
+use Rattle.std.specs.Prelude.{◌≡◌, ℕ, ◌+◌, ◌<◌, ◌≤◌, ◌⊎◌, List, [], ◌++◌, length, take, nat_eq, if◌then◌else◌}
 use Rattle.std.specs.declared.option.Option.{Option}
 use Rattle.std.specs.declared.option.Option.TheVariants.{None, Some}
 use Rattle.munge_types.specs.Bytes.{IsBytes}
@@ -20,7 +20,7 @@ abbrev pub fixed_size : Kind → (size : ℕ) → ℕ
 fixed_size kind.EncodeRequest size = asked_size
 fixed_size kind.EncodeReply size = 1
 fixed_size kind.DecodeRequest size = 0
-fixed_size kind.DecodeReply size = cond (nat_eq size reply_size) reply_size showing_size
+fixed_size kind.DecodeReply size = if nat_eq size reply_size then reply_size else showing_size
 fixed_size kind.Stop size = 0
 fixed_size kind.Bye size = 1
 
