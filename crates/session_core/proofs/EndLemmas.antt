@@ -49,22 +49,22 @@ ended_unread session own before after taken readings state begins EndedInput sta
       leaves = λ _. (refl, none.1, read_alone_untouched [] own.events);
       moves = record { reads = kept_consumes before.left after.left none.0; ends_stay = ends; writes = appends_nothing taken; takes = consumes_nothing readings; stands = stands };
     }
-ended_unread session own before after taken readings state begins Malformed stands ends none =
+ended_unread session own before after taken readings state begins (Malformed count) stands ends none =
     record {
       beyond = read_alone none.bytes own.events;
-      leaves = λ _. (refl, none.holds, read_alone_untouched none.bytes own.events);
+      leaves = λ _. (refl, none.holds.1, read_alone_untouched none.bytes own.events);
       moves = record { reads = none.consumed; ends_stay = ends; writes = appends_nothing taken; takes = consumes_nothing readings; stands = stands };
     }
-ended_unread session own before after taken readings state begins ReadFault stands ends none =
+ended_unread session own before after taken readings state begins (ReadFault count) stands ends none =
     record {
       beyond = read_alone none.bytes own.events;
-      leaves = λ _. (none.holds, read_alone_untouched none.bytes own.events);
+      leaves = λ _. (none.holds.1, read_alone_untouched none.bytes own.events);
       moves = record { reads = none.consumed; ends_stay = ends; writes = appends_nothing taken; takes = consumes_nothing readings; stands = stands };
     }
-ended_unread session own before after taken readings state begins NoRoom stands ends none =
+ended_unread session own before after taken readings state begins (NoRoom count) stands ends none =
     record {
       beyond = read_alone none.bytes own.events;
-      leaves = λ _. (none.holds, inl (read_alone_untouched none.bytes own.events));
+      leaves = λ _. (none.holds.1, inl (read_alone_untouched none.bytes own.events));
       moves = record { reads = none.consumed; ends_stay = ends; writes = appends_nothing taken; takes = consumes_nothing readings; stands = stands };
     }
 

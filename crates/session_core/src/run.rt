@@ -13,6 +13,7 @@ ghost use Rattle.session_core.specs.Session.{session_of};
 ghost use Rattle.session_core.specs.SessionRan.{SessionRan};
 ghost use Rattle.session_core.specs.Things.{input_of, outside_of, things_of};
 
+use crate::request::PIECE_SIZE;
 use crate::turn::take_turn;
 use crate::{HowEnded, SessionEnd};
 use byte_io::{Clock, FullRead, Sink, Source, read_full};
@@ -24,9 +25,6 @@ use wire_msg::{Feeder, Side};
 
 /// The most requests that one session answers.
 const REQUEST_LIMIT: u32 = 1_048_576;
-
-/// The most bytes of a request's body that one read asks for.
-const PIECE_SIZE: usize = 65_536;
 
 /// Reads requests from `input`, one after another, and writes a reply to each to `out`, until the
 /// input ends between two of them, a caller who has control asks to stop, something fails, or

@@ -133,7 +133,7 @@ pub(crate) fn take_turn<I: Source, O: Sink, C: Clock, R: Replay>(
 }
 
 /// Whether the session is over once this request is answered.
-fn stops(who: Identity, request: &Message) -> bool
+pub(crate) fn stops(who: Identity, request: &Message) -> bool
     ensures { result ≡ is_last who request.now }
 {
     match request {
@@ -149,8 +149,8 @@ fn ended_by(cause: Unread, begins: u64) -> HowEnded
 {
     match cause {
         Unread::Ended => HowEnded::Done,
-        Unread::Malformed => HowEnded::Malformed(begins),
-        Unread::ReadFault => HowEnded::ReadFault,
-        Unread::NoMemory => HowEnded::NoMemory,
+        Unread::Malformed(_) => HowEnded::Malformed(begins),
+        Unread::ReadFault(_) => HowEnded::ReadFault,
+        Unread::NoMemory(_) => HowEnded::NoMemory,
     }
 }
