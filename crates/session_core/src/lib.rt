@@ -13,6 +13,8 @@ mod request;
 mod run;
 mod serve;
 mod served;
+#[cfg(test)]
+mod tests;
 mod turn;
 
 pub use end::{HowEnded, SessionEnd};
