@@ -1,8 +1,12 @@
 pub mod AllWritten
+pub mod Beside
 pub mod Counts
 pub mod Files
 pub mod FullRead
 pub mod MemClock
 pub mod MemFiles
+pub mod MemLink
+pub mod MemLists
 pub mod MemSink
 pub mod MemSource
+pub mod TakesFirst

@@ -1,5 +1,5 @@
-//! The outside of munged: sources and sinks of bytes, a clock and files, as traits whose contracts
-//! count every fault, with forms in memory for tests and real forms over the runtime.
+//! The outside of munged: sources and sinks of bytes, connections, clocks and files, as traits whose
+//! contracts count every fault, with forms in memory for tests and real forms over the runtime.
 //!
 //! An object of the outside may tell what it holds, as the forms in memory do. What a contract says
 //! of content holds where it is told. That the real things behave so is not proved.
@@ -7,8 +7,10 @@
 
 mod all_written;
 mod clock;
+mod clocks;
 mod files;
 mod full_read;
+mod link;
 mod memory;
 mod real;
 mod sink;
@@ -18,9 +20,11 @@ mod tests;
 
 pub use all_written::{AllWritten, write_all};
 pub use clock::Clock;
+pub use clocks::Clocks;
 pub use files::{FileFail, Files};
 pub use full_read::{FullRead, read_full};
-pub use memory::{MemClock, MemFiles, MemSink, MemSource, NamedFile};
+pub use link::Link;
+pub use memory::{MemClock, MemClocks, MemFiles, MemLink, MemSink, MemSource, NamedFile};
 pub use real::{DiskFiles, StdSink, StdSource, SystemClock};
 pub use sink::Sink;
 pub use source::Source;

@@ -1,5 +1,6 @@
 //! Tests of the public calls.
 
+mod links;
 mod memory;
 mod real;
 mod streams;

@@ -107,6 +107,10 @@ impl Source for MemSource {
 
     ghost ends = { λ s. s.ends };
 
+    ghost BesideReads = { Unit {0} };
+
+    ghost beside_reads = { λ _. tt };
+
     fn read(&mut self, into: &mut [u8]) -> Result<usize, Failed>
         ensures within { IfOk result (λ n. n ≤ length into.new) }
         ensures planned { IsErr result ↔ Contains self.old.fails (raised self.old.reads) }
