@@ -1,12 +1,16 @@
 pub mod AllWritten
 pub mod Beside
 pub mod Counts
+pub mod Doors
 pub mod Files
 pub mod FullRead
 pub mod MemClock
+pub mod MemDoor
 pub mod MemFiles
 pub mod MemLink
 pub mod MemLists
 pub mod MemSink
 pub mod MemSource
+pub mod MemTicker
 pub mod TakesFirst
+pub mod Ticks

@@ -8,6 +8,7 @@
 mod all_written;
 mod clock;
 mod clocks;
+mod door;
 mod files;
 mod full_read;
 mod link;
@@ -17,14 +18,19 @@ mod sink;
 mod source;
 #[cfg(test)]
 mod tests;
+mod ticker;
 
 pub use all_written::{AllWritten, write_all};
 pub use clock::Clock;
 pub use clocks::Clocks;
+pub use door::{Door, Next};
 pub use files::{FileFail, Files};
 pub use full_read::{FullRead, read_full};
 pub use link::Link;
-pub use memory::{MemClock, MemClocks, MemFiles, MemLink, MemSink, MemSource, NamedFile};
+pub use memory::{
+    MemClock, MemClocks, MemDoor, MemFiles, MemLink, MemSink, MemSource, MemTicker, NamedFile,
+};
 pub use real::{DiskFiles, StdSink, StdSource, SystemClock};
 pub use sink::Sink;
 pub use source::Source;
+pub use ticker::{Tick, Ticker};

@@ -4,14 +4,18 @@
 mod calls;
 mod clock;
 mod clocks;
+mod door;
 mod files;
 mod link;
 mod sink;
 mod source;
+mod ticker;
 
 pub use clock::MemClock;
 pub use clocks::MemClocks;
+pub use door::MemDoor;
 pub use files::{MemFiles, NamedFile};
 pub use link::MemLink;
 pub use sink::MemSink;
 pub use source::MemSource;
+pub use ticker::MemTicker;
