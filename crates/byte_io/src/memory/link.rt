@@ -1,24 +1,9 @@
 //! A connection in memory.
 
-ghost use Rattle.std.specs.Prelude.{
-  ◌≡◌,
-  ℕ,
-  ◌≤◌,
-  ◌↔◌,
-  [],
-  Some,
-  Contains,
-  IsErr,
-  IfOk,
-  OnOk,
-  OnErr,
-  length,
-  take,
-  min,
-};
+ghost use Rattle.std.specs.Prelude.{◌≡◌, ℕ, ◌≤◌, [], Some, IfOk, length};
 ghost use Rattle.byte_io.specs.Counts.{raised};
-ghost use Rattle.byte_io.specs.MemSink.{after_write, after_failed_write};
-ghost use Rattle.byte_io.specs.MemSource.{bound_of, after_read, after_failed_read};
+ghost use Rattle.byte_io.specs.MemSink.{SinkState, WritesAll};
+ghost use Rattle.byte_io.specs.MemSource.{SourceState, ReadsFront};
 
 use super::sink::MemSink;
 use super::source::MemSource;
@@ -84,32 +69,21 @@ impl MemLink {
 }
 
 impl Source for MemLink {
-    ghost use Rattle.byte_io.specs.MemSink.{SinkState};
-
     ghost left = { λ s. Some s.source.left };
 
     ghost read_faults = { λ s. s.source.faults };
 
     ghost ends = { λ s. s.source.ends };
 
+    // What was written, and the rings.
     ghost BesideReads = { SinkState × ℕ };
 
     ghost beside_reads = { λ s. (s.sink, s.rings) };
 
     fn read(&mut self, into: &mut [u8]) -> Result<usize, Failed>
         ensures within { IfOk result (λ n. n ≤ length into.new) }
-        ensures planned { IsErr result
-            ↔ Contains self.old.source.fails (raised self.old.source.reads) }
-        ensures count { IfOk result (λ n.
-            n ≡ min (bound_of self.old.source.piece (length into.new))
-            (length self.old.source.left)) }
-        ensures front { IfOk result (λ n. take n into.new ≡ take n self.old.source.left) }
-        ensures ok { IfOk result (λ n. self.new ≡ record self.old {
-          source = after_read self.old.source n (length into.new);
-        }) }
-        ensures err { OnErr result (self.new ≡ record self.old {
-          source = after_failed_read self.old.source;
-        }) }
+        ensures source { ReadsFront self.old.source self.new.source result into.new }
+        ensures others { self.new ≡ record self.old { source = self.new.source } }
         ensures ends_stay { self.old.source.ends ≤ self.new.source.ends }
         ensures faults_stay { self.old.source.faults ≤ self.new.source.faults }
     {
@@ -118,26 +92,18 @@ impl Source for MemLink {
 }
 
 impl Sink for MemLink {
-    ghost use Rattle.byte_io.specs.MemSource.{SourceState};
-
     ghost taken = { λ s. Some s.sink.taken };
 
     ghost write_faults = { λ s. s.sink.faults };
 
+    // What is read, and the rings.
     ghost BesideWrites = { SourceState × ℕ };
 
     ghost beside_writes = { λ s. (s.source, s.rings) };
 
     fn write(&mut self, from: &[u8]) -> Result<usize, Failed>
-        ensures planned { Contains self.old.sink.fails (raised self.old.sink.writes)
-            → IsErr result }
-        ensures whole { IfOk result (λ n. n ≡ length from.now) }
-        ensures ok { OnOk result (self.new ≡ record self.old {
-          sink = after_write self.old.sink from.now;
-        }) }
-        ensures err { OnErr result (self.new ≡ record self.old {
-          sink = after_failed_write self.old.sink;
-        }) }
+        ensures sink { WritesAll self.old.sink self.new.sink result from.now }
+        ensures others { self.new ≡ record self.old { sink = self.new.sink } }
         ensures faults_stay { self.old.sink.faults ≤ self.new.sink.faults }
     {
         self.sink.write(from)

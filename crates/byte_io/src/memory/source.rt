@@ -74,6 +74,14 @@ impl MemSource {
             ends: 0,
         }
     }
+
+    /// Gives `bytes` from now on, in place of those that were left.
+    pub(super) fn refill(&mut self, bytes: Vec<u8>)
+        ensures { self.new ≡ record self.old { left = bytes.items } }
+    {
+        self.bytes = bytes;
+        self.at = 0;
+    }
 }
 
 /// The most that one read gives into so much room.
