@@ -1,0 +1,4 @@
+pub mod Credentials
+pub mod Load
+pub mod Presented
+pub mod Words
