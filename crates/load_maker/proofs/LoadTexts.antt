@@ -35,9 +35,9 @@ pub one_more : (seed : List ℕ) (settings : Settings) (texts : List (List ℕ))
 one_more seed settings texts i place drawn last all count place_is drawn_is credential =
     let P : ℕ → List ℕ → Type 0 = λ at text. IsCredential (key_of seed) settings at (drawn_at seed (place_of at)) text in
     let at_place : IsCredential (key_of seed) settings i (drawn_at seed place) last =
-        subst (λ d. IsCredential (key_of seed) settings i d last) drawn_is credential in
+    subst (λ d. IsCredential (key_of seed) settings i d last) drawn_is credential in
     let here : P i last =
-        subst (λ p. IsCredential (key_of seed) settings i (drawn_at seed p) last) place_is at_place in
+    subst (λ p. IsCredential (key_of seed) settings i (drawn_at seed p) last) place_is at_place in
     at_each P texts last all (subst (λ at. P at last) (sym count) here)
 
 -- a load with the key and the texts of a number's seed

@@ -73,11 +73,11 @@ pub same_texts : (seed : List ℕ) (one two : Settings) (first second : List (Li
     → length first ≡ length second → AreCredentials seed one first → AreCredentials seed two second → first ≡ second
 same_texts seed one two first second once usual usual' count made made' =
     same_lists first second count (λ i d within.
-      let drawn = drawn_at seed (place_of i) in
-      let within' : i < length second = omega arith in
-      let text = get_or first i d in
-      let text' = get_or second i d in
-      once (key_of seed) two (asked_for i drawn.payload) (asker_of i) moment drawn.salt drawn.iv text text'
-      (sealed_alike (key_of seed) one two (asked_for i drawn.payload) (asker_of i) moment drawn.salt drawn.iv text usual usual'
-      (made i text (slice_get-get_or first i d within)).is_sealed)
-      (made' i text' (slice_get-get_or second i d within')).is_sealed)
+    let drawn = drawn_at seed (place_of i) in
+    let within' : i < length second = omega arith in
+    let text = get_or first i d in
+    let text' = get_or second i d in
+    once (key_of seed) two (asked_for i drawn.payload) (asker_of i) moment drawn.salt drawn.iv text text'
+    (sealed_alike (key_of seed) one two (asked_for i drawn.payload) (asker_of i) moment drawn.salt drawn.iv text usual usual'
+    (made i text (slice_get-get_or first i d within)).is_sealed)
+    (made' i text' (slice_get-get_or second i d within')).is_sealed)

@@ -40,9 +40,9 @@ ready_of : (terms : Terms) (at i : ℕ) (drawn : Drawn) (text : List ℕ) (crede
     → IsReadyUntil terms at (expiry_at i) text
 ready_of terms at i drawn text credential usual at_is opens says =
     let holds : first_broken (caller_rules terms at credential.content) ≡ None =
-        subst (λ content. first_broken (caller_rules terms at content) ≡ None) (sym says)
-        (subst (λ at'. first_broken (caller_rules terms at' (content_at terms.settings i drawn)) ≡ None) (sym at_is)
-        (unbroken terms i drawn usual.skew)) in
+    subst (λ content. first_broken (caller_rules terms at content) ≡ None) (sym says)
+    (subst (λ at'. first_broken (caller_rules terms at' (content_at terms.settings i drawn)) ≡ None) (sym at_is)
+    (unbroken terms i drawn usual.skew)) in
     record {
       credential = credential;
       finds = subst (λ broken. Finds terms at text (found_by broken credential)) holds (opened credential opens);

@@ -2,3 +2,4 @@ pub mod Credentials
 pub mod Load
 pub mod Presented
 pub mod Words
+pub mod WorkedWords

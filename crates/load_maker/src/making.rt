@@ -66,12 +66,7 @@ pub fn make(alloc: Global, n: u32, number: u64) -> Result<Load, NoMemory>
 
 /// The texts of the first n credentials, sealed in this world with the words behind the key. The
 /// list is reserved once.
-fn credentials(
-    alloc: Global,
-    world: &World,
-    words: Words,
-    n: u32,
-) -> Result<Vec<Bytes>, NoMemory>
+fn credentials(alloc: Global, world: &World, words: Words, n: u32) -> Result<Vec<Bytes>, NoMemory>
     requires behind_the_key { words.place ≡ 8 }
     requires keyed { IsOf world.now.subkeys (key_of words.seed) }
     ensures count { IfOk result (λ texts. vec_len texts ≡ n) }

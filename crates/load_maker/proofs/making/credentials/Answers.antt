@@ -10,7 +10,7 @@ credentials-preserved c =
     let drawn = rw before.seed at c.draw.ensures.value in
     let credential = rw drawn at (c.in_ok-text.ensures (key_of c.args.words.seed) c.requires.keyed) in
     let more : length c.push_reserved.new.self.items ≡ c.credentials.i + 1 =
-        ap length c.push_reserved.ensures.items ∙ (length-append c.credentials.texts.items _ ∙ ap (λ n. n + 1) before.count) in
+    ap length c.push_reserved.ensures.items ∙ (length-append c.credentials.texts.items _ ∙ ap (λ n. n + 1) before.count) in
     record {
       texts = rw c.push_reserved.ensures.items
           (one_more c.args.words.seed c.args.world.now.settings c.credentials.texts.items c.credentials.i c.credentials.words.place _

@@ -10,7 +10,7 @@ credentials-requires-clause-keyed c =
 pub returns : goal.returns
 returns c =
     let same : c.key.new.self.seed ≡ seed_of c.args.number =
-        ap (λ s. s.seed) c.key.ensures.goes_on ∙ ap (λ s. s.seed) c.of-words.ensures in
+    ap (λ s. s.seed) c.key.ensures.goes_on ∙ ap (λ s. s.seed) c.of-words.ensures in
     load_of c.args.n c.args.number _ c.key.new.self.seed same
     (rw (c.key.ensures.goes_on, ← c.key.ensures.value) c.in-Ok.ensures.subkeys)
     c.none.ensures
