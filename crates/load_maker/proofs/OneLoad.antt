@@ -1,5 +1,5 @@
 -- A number stands for the same credentials each time.
-use Rattle.std.proofs.Common.{◌≡◌, ◌<◌, ◌++◌, ◌∙◌, ℕ, List, [], ◌∷◌, length, get_or, nat_eq, if◌then◌else◌, min, ap, sym, subst, arith}
+use Rattle.std.proofs.Common.{◌≡◌, ◌<◌, ◌∙◌, ℕ, List, length, get_or, nat_eq, if◌then◌else◌, min, ap, sym, subst, arith}
 use Rattle.std.proofs.lemmas.List.{same_lists}
 use Rattle.std.proofs.lemmas.Option.{slice_get-get_or}
 use Rattle.munge_types.specs.declared.algorithms.Cipher.{Cipher}

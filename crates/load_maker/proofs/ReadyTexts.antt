@@ -1,8 +1,7 @@
 -- The credentials of a load are ready.
-use Rattle.std.proofs.Common.{◌≡◌, ◌+◌, ◌%◌, ℕ, Bool, true, false, nat_eq, nat_le, min, if◌then◌else◌, List, [], ◌++◌, ap, sym, subst, refl, ◌∙◌}
+use Rattle.std.proofs.Common.{◌≡◌, ◌+◌, ◌%◌, ℕ, true, false, nat_eq, min, if◌then◌else◌, List, [], sym, subst, refl}
 use Rattle.std.proofs.lemmas.List.{append-nil}
-use Rattle.std.specs.declared.option.Option.{Option}
-use Rattle.std.specs.declared.option.Option.TheVariants.{None, Some}
+use Rattle.std.specs.declared.option.Option.TheVariants.{None}
 use Rattle.munge_types.specs.declared.settings.Settings.{Settings}
 use Rattle.cred_inner.specs.InnerPart.{Content}
 use Rattle.cred_open.specs.OpeningRules.{Opens, first_broken}

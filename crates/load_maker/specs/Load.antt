@@ -1,5 +1,5 @@
 -- A load: a world, the texts of credentials, and who presents them when.
-use Rattle.std.specs.Prelude.{◌≡◌, ℕ, false, List, [], ◌∷◌, vec_len}
+use Rattle.std.specs.Prelude.{◌≡◌, ℕ, false, [], ◌∷◌, vec_len}
 use Rattle.munge_types.specs.declared.identity.Identity.{Identity}
 use Rattle.munge_types.specs.declared.settings.Settings.{Settings}
 use Rattle.decode_rules.specs.Terms.{IsMadeOf, WorldFiles}

@@ -1,6 +1,6 @@
 -- Worked words, which the checker computes: the first of the load of 1. Their values are those of
 -- `tools/vectors load/1` and of OpenSSL's key stream.
-use Rattle.std.specs.Prelude.{◌≡◌, ℕ, List, [], ◌∷◌, refl}
+use Rattle.std.specs.Prelude.{◌≡◌, [], ◌∷◌, refl}
 use Rattle.rand_core.specs.Steps.{u32_at}
 use Rattle.rand_chacha.specs.Block.{quarter_round, column_round, diagonal_round, double_rounds, block_word}
 use Rattle.load_maker.specs.Words.{seed_of, key_of, drawn_at, four_words, place_of}

@@ -1,4 +1,4 @@
-use Rattle.std.proofs.Common.{◌+◌, ◌*◌, ◌≡◌, List, length, arith, ap, refl, ◌∙◌}
+use Rattle.std.proofs.Common.{◌+◌, ◌≡◌, length, arith, ap, refl, ◌∙◌}
 use Rattle.std.proofs.lemmas.List.{length-append}
 use Rattle.load_maker.proofs.LoadTexts.{one_more}
 use Rattle.load_maker.specs.Words.{key_of}
