@@ -18,16 +18,14 @@ pub(crate) struct Words {
 }
 
 impl Model for Words {
-    ghost use Rattle.std.specs.Prelude.{◌≡◌, ◌<◌, ◌^◌};
-    ghost use Rattle.rand_chacha.specs.ChaCha.{key_of};
-    ghost use Rattle.cred_seal.specs.Dice.{DiceState};
+    ghost use Rattle.cred_seal.specs.Dice.{DiceState, IsGenerator};
 
     ghost Value = { DiceState };
 
     ghost view = { λ words. record { seed = words.seed; place = words.words.word_pos } };
 
-    ghost invariant = { λ words. (words.words.key ≡ key_of words.seed) × (words.words.stream ≡ 0)
-        × (words.words.word_pos < 2 ^ 68) };
+    ghost invariant = { λ words.
+        IsGenerator words.seed words.words.key words.words.stream words.words.word_pos };
 }
 
 /// What is drawn for one credential.
