@@ -15,6 +15,10 @@ use Rattle.session_core.specs.declared.served.ServeEnd.{ServeEnd}
 use Rattle.session_core.specs.declared.served.ServeEnd.TheVariants as how
 use Rattle.session_core.specs.declared.served.Served.{Served}
 
+-- a pass goes on by what it has seen and read; the rest of it stays
+abbrev pub PassGoesOn : (old new : PassState) → Type 0
+PassGoesOn old new = new ≡ record old { highest = new.highest; seen = new.seen }
+
 -- what a call leaves of its pass that made no entry: the pass, but for a ticket word that was worn
 abbrev pub LeavesPass : ServeEnd → (old new : PassState) → Type 0
 LeavesPass (how.Worn ticket) old new = IsWorn old new ticket

@@ -9,7 +9,7 @@ ghost use Rattle.wire_msg.specs.declared.message.Message.TheVariants.{
   Stop,
 };
 ghost use Rattle.session_core.specs.Connection.{TakesReading, timing_of};
-ghost use Rattle.session_core.specs.OnGate.{Draws};
+ghost use Rattle.session_core.specs.OnGate.{Draws, PassGoesOn};
 ghost use Rattle.session_core.specs.Reached.{
   ComesTo,
   CountsClockFault,
@@ -79,6 +79,7 @@ pub(crate) fn reach<C: Clock, R: Replay + Drop, W: Wait>(
         (timing_of (C.readings clock.new) (C.last_reading clock.new) (C.given clock.new))
         result.moment }
     ensures draws { Draws dice.old dice.new result.drawn }
+    ensures pass { PassGoesOn pass.old pass.new }
     ensures faults { CountsClockFault result.reply
         (C.clock_faults clock.old) (C.clock_faults clock.new) }
 {
@@ -155,6 +156,7 @@ fn reach_gate<C: Clock, R: Replay + Drop, W: Wait>(
         (timing_of (C.readings clock.new) (C.last_reading clock.new) (C.given clock.new))
         result.moment }
     ensures undrawn { result.drawn ≡ None }
+    ensures pass { PassGoesOn pass.old pass.new }
     ensures faults { CountsClockFault result.reply
         (C.clock_faults clock.old) (C.clock_faults clock.new) }
 {
@@ -183,6 +185,7 @@ fn enter<R: Replay + Drop, W: Wait>(
         → Reaches service pass.old pass.new (DecodeRequest text) result result.place }
     ensures moment { result.moment ≡ Some moment }
     ensures undrawn { result.drawn ≡ None }
+    ensures pass { PassGoesOn pass.old pass.new }
     ensures timed { result.reply ≢ Err Unreplied.ClockFault }
 {
     match gate.admit(rt, pass, ready.pair(), moment) {

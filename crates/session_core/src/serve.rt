@@ -5,7 +5,7 @@ ghost use Rattle.decode_rules.specs.Terms.{IsMadeOf, WorldFiles, terms_of};
 ghost use Rattle.session_core.specs.Answering.{is_last};
 ghost use Rattle.session_core.specs.Causes.{CausedBy, faults_of};
 ghost use Rattle.session_core.specs.Connection.{TakesReading, connection_of, timing_of};
-ghost use Rattle.session_core.specs.OnGate.{Draws, Serves};
+ghost use Rattle.session_core.specs.OnGate.{Draws, PassGoesOn, Serves};
 ghost use Rattle.session_core.specs.Reached.{CountsWriteFault, Sends, SendsWhat, Tells, peer_of};
 ghost use Rattle.session_core.specs.Partial.{count_of, end_of};
 ghost use Rattle.session_core.specs.Requests.{IsRequest};
@@ -58,6 +58,7 @@ pub fn serve_one<L: Link, C: Clock, R: Replay + Drop, W: Wait>(
         (timing_of (C.readings clock.new) (C.last_reading clock.new) (C.given clock.new))
         result.moment }
     ensures draws { Draws dice.old dice.new result.drawn }
+    ensures pass { PassGoesOn pass.old pass.new }
 
     ensures caused { CausedBy
         (faults_of (L.read_faults conn.old) (L.write_faults conn.old) (C.clock_faults clock.old))
