@@ -156,7 +156,6 @@ fn accepted_pair_stays_spent(rt: HostRuntime) -> Result<(), Fail> {
 
 #[test]
 fn connections_that_bring_no_request(rt: HostRuntime) -> Result<(), Fail> {
-    let mut host = Host::new(rt.alloc())?;
     let table: [(&[u8], ServeEnd, u64); 4] = [
         (b"", ServeEnd::Quiet, 0),
         (b"\x4d", ServeEnd::Malformed, 1),
@@ -164,6 +163,7 @@ fn connections_that_bring_no_request(rt: HostRuntime) -> Result<(), Fail> {
         (b"\x4d\x01\x03\x00\x00\x00\x02\x00", ServeEnd::Malformed, 8),
     ];
     for (bytes, how, read) in table {
+        let mut host = Host::new(rt.alloc())?;
         let (served, reply) = host.serve(&rt, rt.alloc(), caller(7, false), &[bytes], &[])?;
         assert_eq!(rt; served, unheard(how, read));
         assert_eq!(rt; reply.len(), 0);
@@ -173,8 +173,8 @@ fn connections_that_bring_no_request(rt: HostRuntime) -> Result<(), Fail> {
 
 #[test]
 fn stop_asks_for_control(rt: HostRuntime) -> Result<(), Fail> {
-    let mut host = Host::new(rt.alloc())?;
     for (control, how, status) in [(false, ServeEnd::Done, 18), (true, ServeEnd::Stopped, 0)] {
+        let mut host = Host::new(rt.alloc())?;
         let stop: &[u8] = b"\x4d\x01\x05\x00\x00\x00\x00";
         let (served, reply) = host.serve(&rt, rt.alloc(), caller(7, control), &[stop], &[])?;
         assert_eq!(rt; (served.how, served.kind, served.read), (how, Some(5), 7));
