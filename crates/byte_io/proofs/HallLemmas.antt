@@ -48,7 +48,9 @@ first_from path start place d (x ∷ xs) found =
     ≡ Some (slice_index_or (x ∷ xs) at d).door)
     × (cond b (doors_of xs) (named ∷ without_door (doors_of xs) path)
     ≡ doors_of (remove (x ∷ xs) at)))) [
-      | true ↦ λ here. let same : start ≡ place = cc here in (0, omega arith, (refl {a = Some x.door}, refl {a = doors_of xs}))
+      | true ↦ λ here.
+          let same : start ≡ place = cc here in
+          (0, omega arith, (refl {a = Some x.door}, refl {a = doors_of xs}))
       | false ↦ λ later.
           let found_later = rest later in
           let at = found_later.0 in

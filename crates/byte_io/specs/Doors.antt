@@ -4,7 +4,8 @@ use Rattle.byte_io.specs.Counts.{Rose, raised}
 use Rattle.byte_io.specs.declared.door.Next.{Next}
 use Rattle.byte_io.specs.declared.door.Next.TheVariants.{Conn, Over, Failed}
 
--- where the connections to come are told, the first of them is given, and another answer leaves them
+-- where the connections to come are told, the first of them is given, and another answer leaves
+-- them
 abbrev pub Accepts : {C : Type 0} → Option (List C) → Option (List C) → Next C → Type 0
 Accepts None new next = Unit {0}
 Accepts (Some conns) new (Conn conn) = IsSomeAnd new (λ left. conns ≡ conn ∷ left)

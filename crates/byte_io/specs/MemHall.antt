@@ -13,8 +13,8 @@ HasNoDoorFault named = named.door.faults ≡ 0
 abbrev pub doors_of : List NamedDoor → List (List ℕ × DoorState)
 doors_of doors = map (λ named. (string_bytes named.path, named.door)) doors
 
--- what a hall in memory is to its callers: the doors still to be opened, with their paths; its wire;
--- the numbers of the calls of `open_door` that fail, counted from 1; those calls, and those of them
+-- what a hall in memory is to its callers: the doors still to be opened, with their paths; its
+-- wire; the numbers of the calls of `open_door` that fail, counted from 1; the calls made, and those
 -- that failed
 pub record HallState : Type 0 where
   pub doors : List (List ℕ × DoorState)

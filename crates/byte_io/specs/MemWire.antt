@@ -17,8 +17,8 @@ pub record WireState : Type 0 where
   pub dials : ℕ
   pub faults : ℕ
 
--- a dial fails where its number says so, and then changes counts alone; else it appends its path, and
--- the first reply to come is taken out and becomes the bytes left
+-- a dial fails where its number says so, and one that fails changes counts alone; one that does not
+-- appends its path, and the first reply to come is taken out and becomes the bytes left
 abbrev pub DialsReply : {T E : Type 0} → WireState → WireState → Result T E → List ℕ → Type 0
 DialsReply old new result path =
     (Contains old.fails (raised old.dials) → IsErr result)

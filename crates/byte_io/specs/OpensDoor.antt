@@ -13,7 +13,8 @@ without_door (named ∷ doors) path =
     if bytes_eq named.0 path then doors else named ∷ without_door doors path
 
 -- where doors are told, the first of that path is given and taken out, and a failure leaves them
-abbrev pub OpensDoor : {D : Type 0} → Option (List (List ℕ × D)) → Option (List (List ℕ × D)) → List ℕ → Result D FileFail → Type 0
+abbrev pub OpensDoor : {D : Type 0} → Option (List (List ℕ × D)) → Option (List (List ℕ × D))
+    → List ℕ → Result D FileFail → Type 0
 OpensDoor None new path result = Unit {0}
 OpensDoor (Some doors) new path (Ok door) =
     (door_of doors path ≡ Some door) × (new ≡ Some (without_door doors path))

@@ -4,7 +4,8 @@ use Rattle.byte_io.specs.Counts.{Rose, raised}
 use Rattle.byte_io.specs.declared.ticker.Tick.{Tick}
 use Rattle.byte_io.specs.declared.ticker.Tick.TheVariants.{Due, Stop, Failed}
 
--- where the number of Due answers to come is told, Due lowers it by one, and another answer leaves it
+-- where the number of Due answers to come is told, Due lowers it by one, and another answer leaves
+-- it
 abbrev pub Ticks : Option ℕ → Option ℕ → Tick → Type 0
 Ticks None new tick = Unit {0}
 Ticks (Some n) new Due = IsSomeAnd new (λ left. n ≡ left + 1)

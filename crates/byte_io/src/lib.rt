@@ -1,6 +1,6 @@
 //! The outside of munged: sources and sinks of bytes, connections in and out, clocks, tickers and
-//! files, as traits whose contracts count every fault, with forms in memory for tests, and real forms
-//! over the runtime of sources, sinks, a clock and files.
+//! files, as traits whose contracts count every fault. All have forms in memory, for tests; sources,
+//! sinks, clocks and files have real forms over the runtime.
 //!
 //! An object of the outside may tell what it holds, as the forms in memory do. What a contract says
 //! of content holds where it is told. That the real things behave so is not proved.

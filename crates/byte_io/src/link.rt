@@ -7,7 +7,7 @@ ghost use Rattle.byte_io.specs.Counts.{Rose};
 use crate::sink::Sink;
 use crate::source::Source;
 
-/// A connection that a door gave: what its peer sends is read, and what is written goes to its peer.
+/// A connection that a door gave: what its peer sends is read, and what is written goes to the peer.
 pub trait Link: Source + Sink + Send {
     // How often the service was asked to stop.
     ghost rings: { Self → ℕ };

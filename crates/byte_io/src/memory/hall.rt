@@ -50,7 +50,8 @@ pub struct NamedDoor {
     pub door: MemDoor,
 }
 
-/// Doors in memory, each opened once, beside a wire. Of two with one path the first is opened first.
+/// Doors in memory, each opened once, beside a wire. Of two with one path the first is opened
+/// first.
 #[derive(Drop)]
 pub struct MemHall {
     doors: Vec<NamedDoor>,

@@ -31,9 +31,9 @@ impl Model for MemLink {
 }
 
 impl MemLink {
-    /// Gives `bytes`, as many in one read as there is room for, and has taken nothing yet. The reads
-    /// whose numbers are in `read_fails` fail, and the writes whose numbers are in `write_fails`,
-    /// both counted from 1, and so does a write that finds no memory.
+    /// Gives `bytes`, as many in one read as there is room for, and has taken nothing yet. The
+    /// reads whose numbers are in `read_fails` fail, and the writes whose numbers are in
+    /// `write_fails`, both counted from 1, and so does a write that finds no memory.
     pub fn new(
         alloc: Global,
         bytes: Vec<u8>,

@@ -1,6 +1,9 @@
 //! Connections that go out.
 
-use crate::{FullRead, MemWire, Sink, Source, Wire, read_full};
+ghost use Rattle.std.specs.Prelude.{◌≡◌, OnOk};
+ghost use Rattle.byte_io.specs.Dials.{Dials};
+
+use crate::{FullRead, Hall, MemHall, MemWire, Sink, Source, Wire, read_full, write_all};
 use munge_types::Failed;
 use std::test::Fail;
 
@@ -41,5 +44,32 @@ fn wire_keeps_the_paths_that_were_dialled(rt: HostRuntime) -> Result<(), Fail> {
     for (path, want) in wire.dialled().iter().zip(["/a", "/c"]) {
         assert_eq!(rt; path.as_str(), want);
     }
+    Ok(())
+}
+
+/// Dials, asks and reads the answer: in any hall the doors are left as they were.
+fn ask<H: Hall>(
+    hall: &mut H,
+    path: &str,
+    request: &[u8],
+    into: &mut [u8],
+) -> Result<FullRead, Failed>
+    ensures path { OnOk result (Dials (H.dialled hall.old) (H.dialled hall.new) path.now) }
+    ensures doors { H.doors hall.new ≡ H.doors hall.old }
+{
+    hall.dial(path)?;
+    let _ = write_all(hall, request);
+    Ok(read_full(hall, into))
+}
+
+#[test]
+fn hall_is_asked_over_its_wire(rt: HostRuntime) -> Result<(), Fail> {
+    let wire = wire_with_one_reply(&rt)?;
+    let mut hall = MemHall::new(Vec::new(rt.alloc()), wire, Vec::new(rt.alloc()));
+    let mut into = [0u8; 3];
+    assert_eq!(rt; ask(&mut hall, "/a", b"why", &mut into), Ok(FullRead::Full));
+    assert_eq!(rt; hall.taken(), b"why".as_slice());
+    assert_eq!(rt; ask(&mut hall, "/b", b"why", &mut into), Err(Failed));
+    assert_eq!(rt; hall.dialled().len(), 1);
     Ok(())
 }

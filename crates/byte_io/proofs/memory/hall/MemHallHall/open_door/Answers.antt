@@ -22,7 +22,8 @@ returns-in-Some-clause-opened c =
     )
 
 pub returns-in-Some-clause-absent : goal.returns-in-Some-clause-absent
-returns-in-Some-clause-absent c = λ none. absurd (cc (sym none ∙ (returns-in-Some-clause-opened c).0))
+returns-in-Some-clause-absent c = λ none.
+    absurd (cc (sym none ∙ (returns-in-Some-clause-opened c).0))
 
 pub returns-in-Some-clause-no_fault : goal.returns-in-Some-clause-no_fault
 returns-in-Some-clause-no_fault c =
