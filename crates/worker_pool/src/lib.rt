@@ -11,3 +11,6 @@ mod tally;
 pub use job::{Done, Job};
 pub use pool::{PoolEnd, pool_run};
 pub use tally::Tally;
+
+#[cfg(test)]
+mod tests;
