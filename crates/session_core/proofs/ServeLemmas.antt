@@ -26,15 +26,16 @@ use Rattle.session_core.specs.Connection.{Connection, connection_of}
 use Rattle.session_core.specs.OnGate.{LeavesPass, MakesNoEntry, Serves}
 use Rattle.session_core.specs.Partial.{count_of, end_of}
 use Rattle.session_core.specs.Reached.{ComesTo, KeepsPass, Peer, Reaches, ReachesEntry, SendsWhat, Tells, notes_reached}
-use Rattle.session_core.specs.Reading.{ReadsNone}
+use Rattle.session_core.specs.Reading.{KeepsEnds, ReadsNone}
 use Rattle.session_core.specs.Requests.{IsRequest}
 use Rattle.session_core.specs.Service.{Made, Service}
-use Rattle.session_core.specs.Serving.{EndsAs, IsHeard, IsServed, IsUnheard, Rings, notes_told}
+use Rattle.session_core.specs.Serving.{EndsAs, FindsEnd, IsHeard, IsServed, IsUnheard, Rings, notes_told}
 use Rattle.session_core.specs.Things.{CameToEnd, Input}
 use Rattle.session_core.specs.Unreplied.{to_enter}
 use Rattle.session_core.specs.declared.reached.Reached.{Reached}
 use Rattle.session_core.specs.declared.reached.Unreplied.{Unreplied}
 use Rattle.session_core.specs.declared.reached.Unreplied.TheVariants as cause
+use Rattle.session_core.specs.declared.request.Heard.{Heard}
 use Rattle.session_core.specs.declared.request.Unread.{Unread}
 use Rattle.session_core.specs.declared.request.Unread.TheVariants.{Ended, Malformed, ReadFault, NoMemory}
 use Rattle.session_core.specs.declared.served.ServeEnd.{ServeEnd}
@@ -215,9 +216,25 @@ leaves_same (Err cause.ClockFault) stops end before after old new sends keeps = 
 leaves_same (Err cause.NoMemory) stops end before after old new sends keeps = subst (λ e. LeavesPass e old new) (sym sends.0) keeps
 leaves_same (Err (cause.Worn ticket)) stops end before after old new sends keeps = subst (λ e. LeavesPass e old new) (sym sends.0) keeps
 
+-- no end was found where a request came
+sent_found : (reply : Result (List ℕ) Unreplied) (stops : Bool) (end : ServeEnd) (before after : Peer) (ends ends' : ℕ)
+    → SendsWhat reply stops before after end → ends' ≡ ends → FindsEnd end ends ends'
+sent_found (Ok reply) stops how.Done before after ends ends' sends same = same
+sent_found (Ok reply) stops how.Stopped before after ends ends' sends same = same
+sent_found (Ok reply) stops how.WriteFault before after ends ends' sends same = same
+sent_found (Ok reply) stops how.Quiet before after ends ends' sends same = absurd sends
+sent_found (Ok reply) stops how.ReadFault before after ends ends' sends same = absurd sends
+sent_found (Ok reply) stops how.ClockFault before after ends ends' sends same = absurd sends
+sent_found (Ok reply) stops how.Malformed before after ends ends' sends same = absurd sends
+sent_found (Ok reply) stops how.NoMemory before after ends ends' sends same = absurd sends
+sent_found (Ok reply) stops (how.Worn ticket) before after ends ends' sends same = absurd sends
+sent_found (Err cause.ClockFault) stops end before after ends ends' sends same = subst (λ e. FindsEnd e ends ends') (sym sends.0) same
+sent_found (Err cause.NoMemory) stops end before after ends ends' sends same = subst (λ e. FindsEnd e ends ends') (sym sends.0) same
+sent_found (Err (cause.Worn ticket)) stops end before after ends ends' sends same = subst (λ e. FindsEnd e ends ends') (sym sends.0) same
+
 -- a request that was read, answered with or without this entry, and of which the reply was sent
 heard_served : (service : Service) (made : Option Made) (before after : Input) (peer peer' : Peer) (request : Message) (size : ℕ) (reached : Reached) (served : Served)
-    → IsRequest request → Consumes before.left after.left (frame_of request) → before.ends ≤ after.ends → size ≡ length (frame_of request)
+    → IsRequest request → Consumes before.left after.left (frame_of request) → after.ends ≡ before.ends → size ≡ length (frame_of request)
     → Tells request size reached served → SendsWhat reached.reply (is_last service.terms.who request) peer peer' served.how
     → ComesTo service made request (notes_reached reached) reached.reply
     → IsServed service made (connection_of before peer.taken peer.rings) (connection_of after peer'.taken peer'.rings) served
@@ -230,14 +247,14 @@ heard_served service made before after peer peer' request size reached served fi
       exchange = record { read = frame_of request; written = sent.written };
       consumed = read;
       counted = sym size_is ∙ sym tells.read_is;
-      ends_stay = stays;
+      found = sent_found reached.reply (is_last service.terms.who request) served.how peer peer' before.ends after.ends sends stays;
       appended = sent.appended;
       ends = sent.ends;
       rings = sent.rings;
     }
 
 reached_serves : (service : Service) (old new : PassState) (before after : Input) (peer peer' : Peer) (request : Message) (size : ℕ) (reached : Reached) (served : Served) (place : Option ℕ)
-    → IsRequest request → Consumes before.left after.left (frame_of request) → before.ends ≤ after.ends → size ≡ length (frame_of request)
+    → IsRequest request → Consumes before.left after.left (frame_of request) → after.ends ≡ before.ends → size ≡ length (frame_of request)
     → Tells request size reached served → SendsWhat reached.reply (is_last service.terms.who request) peer peer' served.how
     → Reaches service old new request reached place
     → Serves service old new (connection_of before peer.taken peer.rings) (connection_of after peer'.taken peer'.rings) served place
@@ -256,7 +273,7 @@ reached_serves service old new before after peer peer' request size reached serv
     }
 
 pub heard_serves : (service : Service) (old new : PassState) (before after : Input) (peer peer' : Peer) (request : Message) (size : ℕ) (reached : Reached) (served : Served)
-    → IsRequest request → Consumes before.left after.left (frame_of request) → before.ends ≤ after.ends → size ≡ length (frame_of request)
+    → IsRequest request → Consumes before.left after.left (frame_of request) → after.ends ≡ before.ends → size ≡ length (frame_of request)
     → Tells request size reached served → SendsWhat reached.reply (is_last service.terms.who request) peer peer' served.how
     → Reaches service old new request reached reached.place
     → Serves service old new (connection_of before peer.taken peer.rings) (connection_of after peer'.taken peer'.rings) served served.place
@@ -274,7 +291,7 @@ is_unheard : (read : List ℕ) (unread : Unread) → IsUnheard None (record { re
 is_unheard read unread = record { none_made = refl; none_written = refl; no_kind = refl; notes_are = refl }
 
 pub unheard_serves : (service : Service) (pass : PassState) (unread : Unread) (before after : Input) (taken taken' : Option (List ℕ)) (rings rings' : ℕ)
-    → ReadsNone unread before after → before.ends ≤ after.ends → taken' ≡ taken → rings' ≡ rings
+    → ReadsNone unread before after → KeepsEnds {T = Heard} (Err unread) before.ends after.ends → taken' ≡ taken → rings' ≡ rings
     → MakesNoEntry service pass pass (connection_of before taken rings) (connection_of after taken' rings') (unheard_of unread)
 unheard_serves service pass Ended before after taken taken' rings rings' none stays same quiet =
     record {
@@ -283,7 +300,7 @@ unheard_serves service pass Ended before after taken taken' rings rings' none st
         exchange = record { read = []; written = [] };
         consumed = kept_consumes before.left after.left none.0;
         counted = refl;
-        ends_stay = stays;
+        found = stays;
         appended = same_appends taken taken' same;
         ends = (refl, none.1, is_unheard [] Ended);
         rings = quiet;
@@ -296,7 +313,7 @@ unheard_serves service pass (Malformed count) before after taken taken' rings ri
         exchange = record { read = none.bytes; written = [] };
         consumed = none.consumed;
         counted = none.holds.0;
-        ends_stay = stays;
+        found = stays;
         appended = same_appends taken taken' same;
         ends = (none.holds.1, is_unheard none.bytes (Malformed count));
         rings = quiet;
@@ -309,7 +326,7 @@ unheard_serves service pass (ReadFault count) before after taken taken' rings ri
         exchange = record { read = none.bytes; written = [] };
         consumed = none.consumed;
         counted = none.holds.0;
-        ends_stay = stays;
+        found = stays;
         appended = same_appends taken taken' same;
         ends = (none.holds.1, is_unheard none.bytes (ReadFault count));
         rings = quiet;
@@ -322,7 +339,7 @@ unheard_serves service pass (NoMemory count) before after taken taken' rings rin
         exchange = record { read = none.bytes; written = [] };
         consumed = none.consumed;
         counted = none.holds.0;
-        ends_stay = stays;
+        found = stays;
         appended = same_appends taken taken' same;
         ends = inl (none.holds.1, is_unheard none.bytes (NoMemory count));
         rings = quiet;

@@ -1,5 +1,5 @@
 -- What was read of a stream where no request came of it.
-use Rattle.std.specs.Prelude.{◌≡◌, ◌≢◌, ℕ, ◌<◌, ◌⊎◌, List, [], length, Result, Ok, Err}
+use Rattle.std.specs.Prelude.{◌≡◌, ◌≢◌, ℕ, ◌<◌, ◌≤◌, ◌⊎◌, List, [], length, Result, Ok, Err}
 use Rattle.std.specs.Io.KnownBytes.{Consumes, Keeps}
 use Rattle.byte_io.specs.Counts.{Rose}
 use Rattle.wire_msg.specs.Frame.{BeginsFrame, IsFramePrefix}
@@ -49,6 +49,15 @@ CountsReadFault (Err Ended) before now = now ≡ before
 CountsReadFault (Err (Malformed count)) before now = now ≡ before
 CountsReadFault (Err (ReadFault count)) before now = Rose before now
 CountsReadFault (Err (NoMemory count)) before now = now ≡ before
+
+-- the input came to its end only where no request came or was cut off, and the count of ends stands
+-- else
+abbrev pub KeepsEnds : {T : Type 0} → Result T Unread → (before now : ℕ) → Type 0
+KeepsEnds (Ok request) before now = now ≡ before
+KeepsEnds (Err Ended) before now = before ≤ now
+KeepsEnds (Err (Malformed count)) before now = before ≤ now
+KeepsEnds (Err (ReadFault count)) before now = now ≡ before
+KeepsEnds (Err (NoMemory count)) before now = now ≡ before
 
 -- how a session ends for each cause, where the request begins at this byte of the input
 abbrev pub how_of : Unread → (begins : ℕ) → HowEnded

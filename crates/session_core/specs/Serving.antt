@@ -88,6 +88,18 @@ EndsAs service made ended exchange served how.NoMemory =
 EndsAs service made ended exchange served (how.Worn ticket) =
     IsUnreplied exchange served (IsRefusedByGate service made)
 
+-- a read found the end only where no request came or was cut off: the count of ends stands else
+abbrev pub FindsEnd : ServeEnd → (before after : ℕ) → Type 0
+FindsEnd how.Quiet before after = before ≤ after
+FindsEnd how.Malformed before after = before ≤ after
+FindsEnd how.Done before after = after ≡ before
+FindsEnd how.Stopped before after = after ≡ before
+FindsEnd how.ReadFault before after = after ≡ before
+FindsEnd how.WriteFault before after = after ≡ before
+FindsEnd how.ClockFault before after = after ≡ before
+FindsEnd how.NoMemory before after = after ≡ before
+FindsEnd (how.Worn ticket) before after = after ≡ before
+
 -- the daemon was asked to stop where the call says so, and not else
 abbrev pub Rings : ServeEnd → (before after : ℕ) → Type 0
 Rings how.Stopped before after = Rose before after
@@ -107,7 +119,7 @@ pub record IsServed (service : Service) (made : Option Made) (before after : Con
   pub exchange : Exchange
   pub consumed : Consumes before.input.left after.input.left exchange.read
   pub counted : length exchange.read ≡ served.read
-  pub ends_stay : before.input.ends ≤ after.input.ends
+  pub found : FindsEnd served.how before.input.ends after.input.ends
   pub appended : Appends before.taken after.taken exchange.written
   pub ends : let ended = CameToEnd before.input after.input in
       EndsAs service made ended exchange served served.how

@@ -1,5 +1,5 @@
 -- How a request that was read goes without a reply.
-use Rattle.std.specs.Prelude.{◌≡◌, ℕ, true, List}
+use Rattle.std.specs.Prelude.{◌≡◌, ◌≢◌, ℕ, true, List}
 use Rattle.std.specs.declared.option.Option.{Option}
 use Rattle.std.specs.declared.option.Option.TheVariants.{None, Some}
 use Rattle.munge_types.specs.History.{verdict}
@@ -22,20 +22,21 @@ pub record IsUntimed (made : Option Made) (request : Message) (notes : Notes) : 
   pub none_made : made ≡ None
   pub notes_are : notes ≡ no_notes
 
--- words are drawn for an encode request alone
-abbrev pub DrawsFor : Message → (drawn : Option ℕ) → Type 0
-DrawsFor (EncodeRequest ask) drawn = Unit {0}
-DrawsFor (DecodeRequest text) drawn = drawn ≡ None
-DrawsFor Stop drawn = drawn ≡ None
-DrawsFor (EncodeReply said) drawn = ⊥
-DrawsFor (DecodeReply said) drawn = ⊥
-DrawsFor (Bye status) drawn = ⊥
+-- What was taken for a request: a reading of the clock for an encode or a decode request, none for
+-- Stop; and words for an encode request alone, after the reading.
+abbrev pub TakesFor : Message → (moment drawn : Option ℕ) → Type 0
+TakesFor (EncodeRequest ask) moment drawn = moment ≢ None
+TakesFor (DecodeRequest text) moment drawn = (moment ≢ None) × (drawn ≡ None)
+TakesFor Stop moment drawn = (moment ≡ None) × (drawn ≡ None)
+TakesFor (EncodeReply said) moment drawn = ⊥
+TakesFor (DecodeReply said) moment drawn = ⊥
+TakesFor (Bye status) moment drawn = ⊥
 
 -- memory was wanted for the reply, before the gate was asked
 pub record IsGivenUp (made : Option Made) (request : Message) (notes : Notes) : Type 0 where
   pub none_made : made ≡ None
   pub no_rule : notes.rule ≡ None
-  pub draws : DrawsFor request notes.drawn
+  pub takes : TakesFor request notes.moment notes.drawn
 
 -- the gate was asked about a credential at this moment, and gave no verdict
 pub record IsUnsaid (service : Service) (request : Message) (notes : Notes) (moment : ℕ)

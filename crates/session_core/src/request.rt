@@ -33,7 +33,7 @@ ghost use Rattle.session_core.specs.Partial.{
   behind,
   count_of,
 };
-ghost use Rattle.session_core.specs.Reading.{CountsReadFault, ReadsNone};
+ghost use Rattle.session_core.specs.Reading.{CountsReadFault, KeepsEnds, ReadsNone};
 ghost use Rattle.session_core.specs.Requests.{IsRequest};
 ghost use Rattle.session_core.specs.Things.{input_of};
 ghost use Rattle.session_core.specs.declared.request.Progress.TheVariants.{Whole};
@@ -116,6 +116,7 @@ pub(crate) fn read_request<I: Source>(
 
     ensures side { feeder.new.side ≡ feeder.old.side }
     ensures ends_stay { I.ends input.old ≤ I.ends input.new }
+    ensures ends_kept { KeepsEnds result (I.ends input.old) (I.ends input.new) }
     ensures beside { I.beside_reads input.new ≡ I.beside_reads input.old }
 {
     match read_head(input, feeder) {
@@ -142,6 +143,7 @@ pub(crate) fn read_alone<I: Source>(alloc: Global, input: &mut I) -> Result<Hear
     ensures faults { CountsReadFault result (I.read_faults input.old) (I.read_faults input.new) }
 
     ensures ends_stay { I.ends input.old ≤ I.ends input.new }
+    ensures ends_kept { KeepsEnds result (I.ends input.old) (I.ends input.new) }
     ensures beside { I.beside_reads input.new ≡ I.beside_reads input.old }
 {
     let mut feeder = Feeder::new(alloc, Side::Requests);
@@ -185,6 +187,7 @@ fn read_head<I: Source>(input: &mut I, feeder: &mut Feeder) -> Result<Progress, 
 
     ensures side { feeder.new.side ≡ Requests }
     ensures ends_stay { I.ends input.old ≤ I.ends input.new }
+    ensures ends_kept { KeepsEnds result (I.ends input.old) (I.ends input.new) }
     ensures beside { I.beside_reads input.new ≡ I.beside_reads input.old }
 {
     let mut head = [0; HEAD_SIZE];
@@ -242,6 +245,7 @@ fn read_body<I: Source>(
 
     ensures side { feeder.new.side ≡ Requests }
     ensures ends_stay { I.ends input.old ≤ I.ends input.new }
+    ensures ends_kept { KeepsEnds result (I.ends input.old) (I.ends input.new) }
     ensures beside { I.beside_reads input.new ≡ I.beside_reads input.old }
 {
     let size = wanted;
@@ -283,6 +287,7 @@ fn read_piece<I: Source>(
 
     ensures side { feeder.new.side ≡ Requests }
     ensures ends_stay { I.ends input.old ≤ I.ends input.new }
+    ensures ends_kept { KeepsEnds result (I.ends input.old) (I.ends input.new) }
     ensures beside { I.beside_reads input.new ≡ I.beside_reads input.old }
 {
     let size = wanted.min(buffer.len());

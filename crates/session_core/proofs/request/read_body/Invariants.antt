@@ -20,6 +20,7 @@ invariant-pieces g l =
           (λ bytes. l.feeder.unfinished ≡ l.initial.feeder.unfinished ++ bytes);
       faults : g.I.Source.read_faults l.input ≡ g.I.Source.read_faults l.initial.input;
       ends : g.I.Source.ends l.initial.input ≤ g.I.Source.ends l.input;
+      ends_kept : g.I.Source.ends l.input ≡ g.I.Source.ends l.initial.input;
       beside : g.I.Source.beside_reads l.input ≡ g.I.Source.beside_reads l.initial.input;
     }
 

@@ -25,7 +25,7 @@ returns-in-Ok-clause-serves g c = λ files is.
     (peer_of (g.L.Sink.taken c.args.conn.now) (g.L.Link.rings c.args.conn.now))
     (peer_of (g.L.Sink.taken c.send.new.conn) (g.L.Link.rings c.send.new.conn))
     c.in-Ok.heard.request c.in-Ok.heard.size c.reach-reached.result c.send.result
-    c.in-Ok.ensures.fits (rw c.send.ensures.left c.in-Ok.ensures.read) (rw c.send.ensures.ends c.in-Ok.ensures.ends_stay) c.in-Ok.ensures.size
+    c.in-Ok.ensures.fits (rw c.send.ensures.left c.in-Ok.ensures.read) (c.send.ensures.ends ∙ c.in-Ok.ensures.ends_kept) c.in-Ok.ensures.size
     c.send.ensures.tells (rw (taken, rings) at c.send.ensures.sends) (c.reach-reached.ensures.reaches files is)
 
 pub returns-in-Ok-clause-complete : goal.returns-in-Ok-clause-complete
@@ -49,7 +49,7 @@ returns-in-Err-clause-serves g c = λ files is.
     (connection_of before (g.L.Sink.taken c.args.conn.now) (g.L.Link.rings c.args.conn.now))
     (connection_of after (g.L.Sink.taken c.read_alone.new.input) (g.L.Link.rings c.read_alone.new.input)) served served.place)
     (sym c.unheard.ensures)
-    (unheard_serves service c.args.pass.now c.in-Err.cause before after _ _ _ _ c.in-Err.ensures.none c.in-Err.ensures.ends_stay
+    (unheard_serves service c.args.pass.now c.in-Err.cause before after _ _ _ _ c.in-Err.ensures.none c.in-Err.ensures.ends_kept
     (laws.reads_leave_taken _ _ c.in-Err.ensures.beside) (laws.reads_leave_rings _ _ c.in-Err.ensures.beside))
 
 pub returns-in-Err-clause-complete : goal.returns-in-Err-clause-complete
