@@ -59,6 +59,16 @@ KeepsEnds (Err (Malformed count)) before now = before ≤ now
 KeepsEnds (Err (ReadFault count)) before now = now ≡ before
 KeepsEnds (Err (NoMemory count)) before now = now ≡ before
 
+-- the same of a session: the input came to its end only where the session is done or malformed
+abbrev pub FindsEnd : HowEnded → (before now : ℕ) → Type 0
+FindsEnd how.Done before now = before ≤ now
+FindsEnd (how.Malformed place) before now = before ≤ now
+FindsEnd how.ReadFault before now = now ≡ before
+FindsEnd how.WriteFault before now = now ≡ before
+FindsEnd how.ClockFault before now = now ≡ before
+FindsEnd how.Budget before now = now ≡ before
+FindsEnd how.NoMemory before now = now ≡ before
+
 -- how a session ends for each cause, where the request begins at this byte of the input
 abbrev pub how_of : Unread → (begins : ℕ) → HowEnded
 how_of Ended begins = how.Done

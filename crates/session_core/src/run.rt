@@ -7,6 +7,7 @@ ghost use Rattle.munge_types.specs.declared.history.Event.{Event};
 ghost use Rattle.wire_msg.specs.declared.kind.Side.TheVariants.{Requests};
 ghost use Rattle.decode_rules.specs.Terms.{IsMadeOf, WorldFiles};
 ghost use Rattle.session_core.specs.AllLive.{AllLive};
+ghost use Rattle.session_core.specs.Reading.{FindsEnd};
 ghost use Rattle.session_core.specs.RunSoFar.{IsAsked};
 ghost use Rattle.session_core.specs.Seed.{place_of, seed_of};
 ghost use Rattle.session_core.specs.Session.{session_of};
@@ -67,6 +68,7 @@ pub fn session<I: Source, O: Sink, C: Clock, R: Replay>(
         → O.write_faults out.new ≡ O.write_faults out.old }
     ensures clock_sound { result.how ≢ HowEnded.ClockFault
         → C.clock_faults clock.new ≡ C.clock_faults clock.old }
+    ensures found { FindsEnd result.how (I.ends input.old) (I.ends input.new) }
 {
     let Ok(mut buffer) = vec![in alloc; 0u8; PIECE_SIZE] else {
         return SessionEnd {
@@ -130,6 +132,7 @@ fn answer_all<I: Source, O: Sink, C: Clock, R: Replay>(
         → O.write_faults out.new ≡ O.write_faults out.old }
     ensures clock_sound { result.how ≢ HowEnded.ClockFault
         → C.clock_faults clock.new ≡ C.clock_faults clock.old }
+    ensures found { FindsEnd result.how (I.ends input.old) (I.ends input.new) }
 {
     let mut entries = 0;
     'requests: for answered in 0..REQUEST_LIMIT {
@@ -175,6 +178,7 @@ fn end_of_budget<I: Source>(input: &mut I) -> HowEnded
     ensures reads_sound { result ≢ HowEnded.ReadFault
         → I.read_faults input.new ≡ I.read_faults input.old }
     ensures ends_stay { I.ends input.old ≤ I.ends input.new }
+    ensures found { FindsEnd result (I.ends input.old) (I.ends input.new) }
 {
     let mut byte = [0; 1];
     match read_full(input, &mut byte) {
