@@ -1,5 +1,5 @@
 -- What all workers have done together is the closing history.
-use Rattle.std.proofs.Common.{◌≡◌, ℕ, ◌+◌, ◌≤◌, ◌<◌, nat_eq, Bool, true, false, cond, ◌||◌, List, [], ◌∷◌, ◌++◌, length, take, Option, Some, None, sym, ap, ◌∙◌, refl, subst, arith, append_assoc, length-append}
+use Rattle.std.proofs.Common.{◌≡◌, ℕ, ◌+◌, ◌^◌, ◌≤◌, ◌<◌, nat_eq, Bool, true, false, cond, ◌||◌, List, [], ◌∷◌, ◌++◌, length, take, Option, Some, None, sym, ap, ◌∙◌, refl, subst, arith, append_assoc, length-append}
 use Rattle.std.specs.List.{All, AllZip, count_by, sum_by, slice_get, range_with_len, IsDistinct}
 use Rattle.std.proofs.Math.Bool.{or-true}
 use Rattle.std.proofs.lemmas.Bool.Decides.{Decides-eqb, nat_tests}
@@ -301,7 +301,7 @@ pub pool_ran : {L C : Type 0} (work : Work L C) (pass : PassState) (batches : Li
     (entries : ℕ) (state : Remembered) → IsMade work.world → length batches ≡ length work.seeds
     → Joined work (length batches) 0 pass batches → ((number : ℕ) → any_by (number ∷ []) pass.seen ≡ true → is_of pass.numbers number ≡ true)
     → pass.highest ≤ length pass.seen → entries ≡ length pass.seen → Stands state pass.seen → IsDistinct pair_eq (accepted pass.seen)
-    → Gathered (length work.jobs) batches done → Tallies done tally → length work.jobs < 4294967296
+    → Gathered (length work.jobs) batches done → Tallies done tally → length work.jobs < 2 ^ 32
     → PoolRan work (left_of done tally entries state)
 pool_ran {L} {C} work pass batches done tally entries state world_made many joined made highest length_is stands once gathered tallies few =
     let seen = pass.seen in

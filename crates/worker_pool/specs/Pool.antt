@@ -36,8 +36,8 @@ IsNotWorn how.ClockFault = Unit {0}
 IsNotWorn how.Malformed = Unit {0}
 IsNotWorn how.NoMemory = Unit {0}
 
--- what is left of a pool: what came of its jobs, the tally, how many entries its gate's history has,
--- and what its state remembers
+-- what is left of a pool: what came of its jobs, the tally, how many entries its gate's history
+-- has, and what its state remembers
 pub record Left (L C : Type 0) : Type 0 where
   pub done : List (Done L C)
   pub tally : Tally

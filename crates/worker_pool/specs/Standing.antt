@@ -33,8 +33,8 @@ abbrev pub Marks : (number : ℕ) → (history : List Event) → (rule place : O
 Marks number history rule (Some place) = IsEntry number history rule place
 Marks number history rule None = Unit {0}
 
--- What came of a job, in a history: its connection and its clock, as they were given in, were served
--- with the seed of its worker and the pass that is told, and are handed back.
+-- What came of a job, in a history: its connection and its clock, as they were given in, were
+-- served with the seed of its worker by the pass that is told, and are handed back.
 pub record HasServed {L C : Type 0} (work : Work L C) (history : List Event) (bound : ℕ)
     (done : Done L C) : Type 0 where
   pub job : Job L C

@@ -19,12 +19,14 @@ abbrev pub sight_of : {L C : Type 0} → (left : L → Option (List ℕ)) → (e
     → (readings : C → Option (List ℕ)) → (last given clock_faults : C → ℕ) → Sight L C
 sight_of left ends taken rings read_faults write_faults readings last given clock_faults =
     record {
-      connection = λ conn. connection_of (input_of (left conn) (ends conn)) (taken conn) (rings conn);
+      connection = λ conn.
+          connection_of (input_of (left conn) (ends conn)) (taken conn) (rings conn);
       timing = λ clock. timing_of (readings clock) (last clock) (given clock);
       faults = λ conn clock. faults_of (read_faults conn) (write_faults conn) (clock_faults clock);
     }
 
--- what stands for all workers, a seed for each worker, and the jobs
+-- What a pool works on: how contracts see its connections and its clocks, the world, a seed for each
+-- of its workers, and the jobs.
 pub record Work (L C : Type 0) : Type 0 where
   pub sight : Sight L C
   pub world : World

@@ -1,6 +1,6 @@
 //! Dealing jobs out to workers.
 
-ghost use Rattle.std.specs.Prelude.{◌≡◌, ℕ, ◌≤◌, ◌<◌, List, [], length, IfOk, OnOk};
+ghost use Rattle.std.specs.Prelude.{◌≡◌, ℕ, ◌^◌, ◌≤◌, ◌<◌, List, [], length, IfOk, OnOk};
 ghost use Rattle.std.specs.List.{All};
 ghost use Rattle.worker_pool.specs.Dealing.{EachDealt, EachLoaded, EachNew, EachReserved, IsHome};
 ghost use Rattle.replay_gate.specs.PassState.{GateId};
@@ -44,7 +44,7 @@ pub(crate) fn deal<L: Drop, C: Drop>(
     lanes: &mut [Lane<L, C>],
 ) -> Result<(), NoMemory>
     requires some { 0 < length lanes.old }
-    requires few { length jobs.items < 4294967296 }
+    requires few { length jobs.items < 2 ^ 32 }
     requires empty { All (λ lane. lane.tasks.items ≡ []) lanes.old }
     ensures { OnOk result (EachDealt jobs.items 0 lanes.old lanes.new) }
 {
@@ -80,7 +80,7 @@ fn deal_all<L: Drop, C: Drop>(
     lanes: &mut [Lane<L, C>],
 ) -> Result<(), NoMemory>
     requires some { 0 < length lanes.old }
-    requires few { length jobs.items < 4294967296 }
+    requires few { length jobs.items < 2 ^ 32 }
     requires empty { All (λ lane. lane.tasks.items ≡ []) lanes.old }
     ensures { OnOk result ((gate : GateId) (seeds : List (List ℕ)) → EachNew gate seeds lanes.old
         → EachLoaded jobs.items gate seeds lanes.new) }
@@ -99,7 +99,7 @@ pub(crate) fn load<L: Drop, C: Drop, R: Replay + Drop>(
 ) -> Result<Vec<Lane<L, C>>, NoMemory>
     requires home { IsHome gate.now (length seeds.now) home.old }
     requires some { 1 ≤ length seeds.now }
-    requires few { length jobs.items < 4294967296 }
+    requires few { length jobs.items < 2 ^ 32 }
     ensures home { OnOk result (IsFresh gate.now home.new) }
     ensures count { IfOk result (λ lanes. length lanes.items ≡ length seeds.now) }
     ensures lanes { IfOk result (λ lanes. EachLoaded jobs.items gate.now seeds.now lanes.items) }

@@ -1,6 +1,6 @@
 //! The pool.
 
-ghost use Rattle.std.specs.Prelude.{◌≡◌, ◌+◌, ◌≤◌, ◌<◌, [], length, vec_len, vec_capacity, IfOk};
+ghost use Rattle.std.specs.Prelude.{◌≡◌, ◌+◌, ◌^◌, ◌≤◌, ◌<◌, [], length, vec_len, vec_capacity, IfOk};
 ghost use Rattle.std.specs.List.{All};
 ghost use Rattle.munge_types.specs.StandsFor.{Stands};
 ghost use Rattle.worker_pool.specs.Joining.{EachFinished, HasPass, InOrder, Joined};
@@ -90,11 +90,11 @@ fn gather<L: Drop, C: Drop>(batches: &mut [Batch<L, C>], count: usize, done: &mu
     done.reverse();
 }
 
-/// Serves the jobs on a gate of its own, by a worker for each seed, 1 to 64, each in a thread. There
-/// are fewer than 2^32 jobs, and the state stands for the empty history. The worker w, counted from
-/// 0, has the seed w, and serves in order the jobs whose number is w modulo the number of workers.
-/// All memory of its own is taken before the first job: after `NoMemory` nothing was served, and the
-/// jobs and the state are dropped.
+/// Serves the jobs on one new gate, by a worker for each seed, 1 to 64, each in a thread of its own
+/// where one can be made. There are fewer than 2^32 jobs, and the state stands for the empty history.
+/// The worker w, counted from 0, has the seed w, and serves in order the jobs whose number is w
+/// modulo the number of workers. All memory of its own is taken before the first job; `NoMemory` is
+/// answered before it, and the jobs and the state are dropped then. It may wait for its threads.
 pub fn pool_run<L, C, R, W>(
     rt: &W,
     alloc: Global,
@@ -109,7 +109,7 @@ where
     R: Replay + Drop,
     W: Threads + Wait + Sync,
     requires workers { (1 ≤ length seeds.items) × (length seeds.items ≤ 64) }
-    requires jobs { length jobs.items < 4294967296 }
+    requires jobs { length jobs.items < 2 ^ 32 }
     requires empty { Stands (R.remembered replay) [] }
 
     // For a world that is made of some three files, as every one is.
@@ -117,7 +117,8 @@ where
         let sight = sight_of L.left L.ends L.taken L.rings L.read_faults L.write_faults
         C.readings C.last_reading C.given C.clock_faults in
         PoolRan (work_of sight world.now seeds.items jobs.items)
-        (left_of end.done.items end.tally end.closed.length (R.remembered end.closed.state))) }
+        (left_of end.done.items end.tally end.closed.length
+        (R.remembered end.closed.state))) }
 {
     let count = jobs.len();
     let workers = seeds.len();
