@@ -178,7 +178,10 @@ fn stop_asks_for_control(rt: HostRuntime) -> Result<(), Fail> {
         let stop: &[u8] = b"\x4d\x01\x05\x00\x00\x00\x00";
         let (served, reply) = host.serve(&rt, rt.alloc(), caller(7, control), &[stop], &[])?;
         assert_eq!(rt; (served.how, served.kind, served.read), (how, Some(5), 7));
-        assert_eq!(rt; reply.as_slice(), [0x4d, 1, 6, 0, 0, 0, 1, status].as_slice());
+        assert_eq!(rt;
+            reply.as_slice(),
+            [0x4d, 1, 6, 0, 0, 0, 1, status].as_slice()
+        );
     }
     Ok(())
 }
