@@ -5,8 +5,6 @@
 //! line has the number of workers, and how many jobs were served a second, if half of them were
 //! accepted and the others found replayed.
 
-ghost use Rattle.std.specs.Prelude.{◌≤◌};
-
 use crate::pace::Pace;
 use byte_io::{MemClock, MemLink};
 use load_maker::{Load, make};
@@ -25,6 +23,9 @@ const CREDENTIALS: u32 = 20_000;
 
 /// The load's number.
 const NUMBER: u64 = 1;
+
+/// The most jobs that a pool takes.
+const MOST_JOBS: usize = u32::MAX as usize;
 
 /// The jobs that present each credential of a load twice.
 fn jobs_of(alloc: Global, load: &Load) -> Result<Vec<Job<MemLink, MemClock>>, AllocError> {
@@ -47,10 +48,8 @@ fn jobs_of(alloc: Global, load: &Load) -> Result<Vec<Job<MemLink, MemClock>>, Al
     Ok(jobs)
 }
 
-/// Serves the load by so many workers.
-fn time<R: Threads + Wait + Clock + Sync>(rt: &R, alloc: Global, workers: u8) -> io::Result<Pace>
-    requires { (1 ≤ workers) × (workers ≤ 64) }
-{
+/// Serves the load by so many workers, 1 to 64.
+fn time<R: Threads + Wait + Clock + Sync>(rt: &R, alloc: Global, workers: u8) -> io::Result<Pace> {
     let Ok(load) = make(alloc, CREDENTIALS, NUMBER) else {
         return Err(io::ErrorKind::OutOfMemory.into());
     };
@@ -59,6 +58,9 @@ fn time<R: Threads + Wait + Clock + Sync>(rt: &R, alloc: Global, workers: u8) ->
     let mut seeds = Vec::new(alloc);
     for worker in 0..workers {
         seeds.push([worker; 32])?;
+    }
+    if seeds.is_empty() || seeds.len() > 64 || jobs.len() > MOST_JOBS {
+        return Err(io::ErrorKind::InvalidInput.into());
     }
     let hash_state: BuildHasherDefault<FoldHasher> = BuildHasherDefault::new();
     let replay = ReplayTable::new(alloc, hash_state);
