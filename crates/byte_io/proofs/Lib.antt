@@ -1,2 +1,3 @@
 pub mod CountLemmas
+mod HallLemmas
 pub mod StreamLemmas

@@ -1,5 +1,5 @@
 -- A source in memory.
-use Rattle.std.specs.Prelude.{ℕ, ◌==◌, ◌&&◌, List, min, drop, nat_lt, if◌then◌else◌}
+use Rattle.std.specs.Prelude.{◌≡◌, ℕ, ◌==◌, ◌&&◌, ◌↔◌, List, length, min, take, drop, nat_lt, if◌then◌else◌, Result, Contains, IsErr, IfOk, OnErr}
 use Rattle.byte_io.specs.Counts.{raised}
 
 -- what a source in memory is to its callers: the bytes left; the most that one read gives, or 0 for
@@ -28,3 +28,12 @@ after_read s n room = record s {
 -- the source after a read that failed
 abbrev pub after_failed_read : SourceState → SourceState
 after_failed_read s = record s { reads = raised s.reads; faults = raised s.faults }
+
+-- a read fails where its number says so, and else gives the front of the bytes left
+abbrev pub ReadsFront : {E : Type 0} → SourceState → SourceState → Result ℕ E → List ℕ → Type 0
+ReadsFront old new result into =
+    (IsErr result ↔ Contains old.fails (raised old.reads))
+    × OnErr result (new ≡ after_failed_read old)
+    × IfOk result (λ n. new ≡ after_read old n (length into))
+    × IfOk result (λ n. n ≡ min (bound_of old.piece (length into)) (length old.left))
+    × IfOk result (λ n. take n into ≡ take n old.left)

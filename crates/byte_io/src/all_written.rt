@@ -27,6 +27,8 @@ pub fn write_all<O: Sink>(out: &mut O, from: &[u8]) -> AllWritten
         (O.write_faults out.new ≡ O.write_faults out.old)
         (Rose (O.write_faults out.old) (O.write_faults out.new)) }
     ensures faults_stay { O.write_faults out.old ≤ O.write_faults out.new }
+
+    ensures beside { O.beside_writes out.new ≡ O.beside_writes out.old }
 {
     let mut written = 0;
     'put: while written < from.len() {

@@ -37,6 +37,8 @@ pub fn read_full<I: Source>(input: &mut I, into: &mut [u8]) -> FullRead
         (I.read_faults input.new ≡ I.read_faults input.old)
         (Rose (I.read_faults input.old) (I.read_faults input.new)) }
     ensures faults_stay { I.read_faults input.old ≤ I.read_faults input.new }
+
+    ensures beside { I.beside_reads input.new ≡ I.beside_reads input.old }
 {
     let mut filled = 0;
     'fill: while filled < into.len() {

@@ -25,6 +25,11 @@ pub trait Sink {
     // How many writes failed.
     ghost write_faults: { Self → ℕ };
 
+    // What an object that is more than a sink holds besides. A write leaves it as it is.
+    ghost BesideWrites: { Type 0 };
+
+    ghost beside_writes: { Self → BesideWrites };
+
     /// Writes the front of `from`, and returns how many bytes were taken: at least one, unless
     /// `from` is empty. `Failed` has taken nothing.
     fn write(&mut self, from: &[u8]) -> Result<usize, Failed>
@@ -34,5 +39,7 @@ pub trait Sink {
 
         ensures failed { OnErr result (Rose (write_faults self.old) (write_faults self.new)) }
         ensures sound { OnOk result (write_faults self.new ≡ write_faults self.old) }
-        ensures faults_stay { write_faults self.old ≤ write_faults self.new };
+        ensures faults_stay { write_faults self.old ≤ write_faults self.new }
+
+        ensures beside { beside_writes self.new ≡ beside_writes self.old };
 }

@@ -29,6 +29,11 @@ pub trait Source {
     // How many reads found the end of input.
     ghost ends: { Self → ℕ };
 
+    // What an object that is more than a source holds besides. A read leaves it as it is.
+    ghost BesideReads: { Type 0 };
+
+    ghost beside_reads: { Self → BesideReads };
+
     /// Reads into the front of `into`, and returns how many bytes were read. None, for an `into`
     /// that is not empty, is the end of input. `Failed` has read nothing.
     fn read(&mut self, into: &mut [u8]) -> Result<usize, Failed>
@@ -45,5 +50,7 @@ pub trait Source {
 
         ensures failed { OnErr result (Rose (read_faults self.old) (read_faults self.new)) }
         ensures sound { OnOk result (read_faults self.new ≡ read_faults self.old) }
-        ensures faults_stay { read_faults self.old ≤ read_faults self.new };
+        ensures faults_stay { read_faults self.old ≤ read_faults self.new }
+
+        ensures beside { beside_reads self.new ≡ beside_reads self.old };
 }

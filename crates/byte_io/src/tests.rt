@@ -1,5 +1,8 @@
 //! Tests of the public calls.
 
+mod doors;
+mod links;
 mod memory;
 mod real;
 mod streams;
+mod wires;

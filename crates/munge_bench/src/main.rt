@@ -6,6 +6,7 @@
 
 mod aes;
 mod caller;
+mod exercise;
 mod gate;
 mod groups;
 mod lane;
@@ -21,6 +22,7 @@ fn main(rt: HostRuntime) -> io::Result<ExitCode> {
     for word in env::args(&rt)?.skip(1) {
         match word.as_str() {
             "aes" => aes::run(&rt)?,
+            "exercise" => exercise::run(&rt, rt.alloc())?,
             "gate" => gate::run(&rt, rt.alloc())?,
             "groups" => groups::run(&rt, rt.alloc())?,
             "replay" => replay::run(&rt, rt.alloc())?,

@@ -1,6 +1,6 @@
 -- What the command `check` comes to, from what it called.
-use Rattle.std.proofs.Common.{◌≡◌, ◌≢◌, ℕ, ◌<◌, Bool, List, [], ◌++◌, length, take, drop, Option, None, Some, refl, sym, ap, ◌∙◌, subst, arith, take-append-drop}
-use Rattle.std.proofs.lemmas.List.{append-nil, length-take, length-append}
+use Rattle.std.proofs.Common.{◌≡◌, ◌≢◌, ℕ, ◌<◌, Bool, List, [], ◌++◌, length, take, drop, Option, Some, refl, sym, ap, ◌∙◌, subst, arith, take-append-drop}
+use Rattle.std.proofs.lemmas.List.{append-nil, length-take}
 use Rattle.group_map.specs.FirstBadLine.{first_bad}
 use Rattle.group_map.specs.Lines.{lines_of}
 use Rattle.session_core.specs.SessionRan.{IsProperPrefix}

@@ -1,6 +1,6 @@
 -- A session over whole requests that no fault stops ends with all of them answered, or for want of
 -- memory.
-use Rattle.std.proofs.Common.{◌≡◌, ◌≢◌, ℕ, ◌+◌, ◌≤◌, ◌⊎◌, inl, inr, true, false, List, [], ◌∷◌, ◌++◌, length, take, Option, None, Some, refl, sym, ap, ◌∙◌, subst, arith, rules}
+use Rattle.std.proofs.Common.{◌≡◌, ◌≢◌, ℕ, ◌+◌, ◌≤◌, ◌⊎◌, inl, inr, false, List, [], ◌∷◌, ◌++◌, length, take, Option, None, Some, refl, sym, ap, ◌∙◌, subst, arith}
 use Rattle.std.proofs.lemmas.List.{append_assoc, append-nil, length-append, length-take, take_all}
 use Rattle.std.specs.Io.KnownBytes.{Consumes, Appends, IsAtEnd}
 use Rattle.std.specs.Option.{IsSomeAnd}
@@ -10,8 +10,8 @@ use Rattle.wire_msg.specs.declared.message.Message.{Message}
 use Rattle.session_core.specs.Answering.{Own, Run, nothing_done}
 use Rattle.session_core.specs.Requests.{frames}
 use Rattle.session_core.specs.Session.{Session}
-use Rattle.session_core.specs.SessionRan.{Beyond, Ends, Leaves, SessionRan, request_limit, stopped, left}
-use Rattle.session_core.specs.Things.{CameToEnd, Outside, things_of}
+use Rattle.session_core.specs.SessionRan.{Beyond, Ends, Leaves, request_limit, stopped, left}
+use Rattle.session_core.specs.Things.{CameToEnd, Outside}
 use Rattle.session_core.specs.declared.end.HowEnded.{HowEnded}
 use Rattle.session_core.specs.declared.end.HowEnded.TheVariants as how
 use Rattle.munged_run.specs.CommandLine.{AskedSession, command_of}

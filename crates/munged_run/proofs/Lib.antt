@@ -1,5 +1,11 @@
 pub mod CheckLemmas
+pub mod ClosingTally
 pub mod Completeness
+pub mod Counting
+pub mod LoadJobsMade
+pub mod LoadRuns
 pub mod NumberLemmas
 pub mod RunLemmas
+pub mod Seeds
+pub mod ServedJobs
 pub mod StreamOfRequests

@@ -1,15 +1,16 @@
 -- What a session comes to, from what the program called.
-use Rattle.std.proofs.Common.{◌≡◌, ◌≢◌, ◌⊎◌, ℕ, ◌≤◌, inl, inr, List, [], length, Option, None, Some, option_map, refl, sym, ap, ◌∙◌, subst}
+use Rattle.std.proofs.Common.{◌≡◌, ℕ, ◌≤◌, inl, inr, List, [], length, Option, Some, option_map, ap, subst}
 use Rattle.munge_types.specs.StandsFor.{Remembered}
 use Rattle.munge_types.specs.declared.identity.Identity.{Identity}
 use Rattle.munge_types.specs.declared.settings.Settings.{Settings}
 use Rattle.session_core.specs.SessionRan.{SessionRan}
-use Rattle.session_core.specs.Things.{Outside, Things, things_of}
+use Rattle.session_core.specs.Things.{Outside, things_of}
 use Rattle.session_core.specs.declared.end.SessionEnd.{SessionEnd}
+use Rattle.load_maker.specs.Load.{IsUsual}
 use Rattle.munged_run.specs.CommandLine.{AskedSession, caller_of}
 use Rattle.munged_run.specs.Ending.{Ending, after_session}
 use Rattle.munged_run.specs.KeyFile.{HoldsKey, IsKey}
-use Rattle.munged_run.specs.Program.{Answered, IsUsual, nothing_remembered}
+use Rattle.munged_run.specs.Program.{Answered, nothing_remembered}
 use Rattle.munged_run.specs.SeedFile.{GivesNoSeed, IsSeedOf}
 use Rattle.munged_run.specs.SeedFile as seeds
 use Rattle.munged_run.specs.Unread.{IsUnread}

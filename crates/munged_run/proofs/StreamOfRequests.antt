@@ -1,16 +1,16 @@
 -- A stream of whole requests is read in one way, and is never malformed.
-use Rattle.std.proofs.Common.{◌≡◌, ◌≢◌, ℕ, ◌+◌, ◌<◌, ◌≤◌, ◌⊎◌, inl, inr, List, [], ◌∷◌, ◌++◌, length, take, drop, refl, sym, ap, ◌∙◌, subst, arith, take-append-drop}
+use Rattle.std.proofs.Common.{◌≡◌, ℕ, ◌≤◌, inl, inr, List, [], ◌∷◌, ◌++◌, length, take, drop, refl, sym, ap, ◌∙◌, subst, arith, take-append-drop}
 use Rattle.std.proofs.lemmas.Bool.Decides.{leb_tells}
-use Rattle.std.proofs.lemmas.List.{append_assoc, append-nil, length-append, take_at, drop_at, take-append-le}
+use Rattle.std.proofs.lemmas.List.{append_assoc, append-nil, take_at, drop_at, take-append-le}
 use Rattle.std.specs.List.{AllByRecursion}
 use Rattle.wire_msg.specs.Fits.{IsMessage}
-use Rattle.wire_msg.specs.Frame.{BeginsFrame, IsFrame, IsFramePrefix}
+use Rattle.wire_msg.specs.Frame.{IsFrame}
 use Rattle.wire_msg.specs.FrameHead.{head_size}
-use Rattle.wire_msg.specs.Spelling.{frame_of, body_of}
+use Rattle.wire_msg.specs.Spelling.{frame_of}
 use Rattle.wire_msg.specs.declared.kind.Side.{Side}
 use Rattle.wire_msg.specs.declared.kind.Side.TheVariants.{Requests}
 use Rattle.wire_msg.specs.declared.message.Message.{Message}
-use Rattle.session_core.specs.Reading.{IsNoRequest, IsLessThanOne, broken, cut}
+use Rattle.session_core.specs.Reading.{IsNoRequest, broken, cut}
 use Rattle.session_core.specs.Requests.{IsRequest, frames}
 
 -- what is known of frames

@@ -4,6 +4,7 @@ use Rattle.std.specs.declared.option.Option.{Option}
 use Rattle.std.specs.declared.option.Option.TheVariants.{None, Some}
 use Rattle.munge_types.specs.StandsFor.{Remembered}
 use Rattle.munge_types.specs.declared.settings.Settings.{Settings}
+use Rattle.load_maker.specs.Load.{IsUsual}
 use Rattle.session_core.specs.Session.{Session}
 use Rattle.session_core.specs.SessionRan.{SessionRan}
 use Rattle.session_core.specs.Things.{Outside, things_of}
@@ -15,13 +16,6 @@ use Rattle.munged_run.specs.Ending.{Ending, after_session}
 use Rattle.munged_run.specs.Ending as ending
 use Rattle.munged_run.specs.KeyFile.{GivesNoKey, HoldsKey}
 use Rattle.munged_run.specs.SeedFile.{GivesNoSeed, IsSeedOf}
-
--- the settings that a session goes by
-pub record IsUsual (settings : Settings) : Type 0 where
-  pub default_ttl : settings.default_ttl ≡ 300
-  pub max_ttl : settings.max_ttl ≡ 3600
-  pub skew : settings.skew ≡ 300
-  pub addr : settings.addr ≡ 0 ∷ 0 ∷ 0 ∷ 0 ∷ []
 
 -- the session that was asked for, under this key, with these settings and this seed, without
 -- groups, from the empty history on

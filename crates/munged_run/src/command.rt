@@ -132,7 +132,7 @@ fn id_of_word(word: &str) -> Option<u32>
 }
 
 /// The word is one or more ASCII digits, at most 20.
-fn is_number(word: &str) -> bool
+pub(crate) fn is_number(word: &str) -> bool
     ensures { result ≡ is_numeral word.now }
 {
     !word.is_empty() && word.len() <= MOST_DIGITS && are_digits(word.as_bytes())

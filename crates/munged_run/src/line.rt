@@ -63,7 +63,7 @@ pub fn write_line<E: Sink>(err: &mut E, line: Line<'_>) -> Result<(), Failed>
 }
 
 /// Writes a part of a line.
-fn put<E: Sink>(err: &mut E, part: &str) -> Result<(), Failed>
+pub(crate) fn put<E: Sink>(err: &mut E, part: &str) -> Result<(), Failed>
     ensures written { OnOk result (Appends (E.taken err.old) (E.taken err.new) part.now) }
     ensures failed { OnErr result (Rose (E.write_faults err.old) (E.write_faults err.new)) }
     ensures sound { OnOk result (E.write_faults err.new ≡ E.write_faults err.old) }

@@ -1,27 +1,36 @@
 //! The program of munged: `munged session KEYFILE UID GID [SEEDFILE]` answers the requests of its
 //! standard input on its standard output; without a seed file nothing is sealed. `munged check
-//! CONFIG` looks over an option file and the files that it names. `munged --help` and
-//! `munged --version` say what it is.
+//! CONFIG` looks over an option file and the files that it names. `munged exercise N NUMBER WORKERS`
+//! has workers answer the requests of a generated load. `munged --help` and `munged --version` say
+//! what it is.
 #![tactic(auto)]
 
 mod check;
 mod command;
+mod daemon;
 mod ending;
+mod exercise;
+mod exercise_words;
 mod file;
 mod key_file;
 mod line;
+mod load;
 mod maps;
 mod run;
 mod seed_file;
 mod session;
 #[cfg(test)]
 mod tests;
+mod totals;
 
-use byte_io::{DiskFiles, StdSink, StdSource, SystemClock};
+use byte_io::{DiskFiles, MemClocks, MemHall, MemTicker, MemWire, StdSink, StdSource, SystemClock};
+use daemon::munged_daemon;
 use ending::Ending;
 use run::munged_run;
 use std::io::{BufReader, ErrorKind, Write};
 use std::process::ExitCode;
+use std::sync::Wait;
+use std::thread::Threads;
 use std::{env, io};
 
 /// What `munged --help` prints.
@@ -36,6 +45,11 @@ munged: seals credentials and opens them, each at most once
   munged check CONFIG
       looks over the option file CONFIG and the key, passwd and group files
       that it names, and prints ok where none is refused
+  munged exercise N NUMBER WORKERS
+      makes N credentials from NUMBER and presents each of them twice, over
+      connections that so many workers serve, each in a thread; then purges
+      what has expired, and prints how many requests were accepted, how many
+      were replays, how many had expired, and how many credentials are kept
   munged --help
   munged --version
 
@@ -44,6 +58,8 @@ end; 1 the words are no command; 2 a file could not be read; 3 a key or seed
 file of a wrong size; 4 an option, passwd or group file is refused; 5 the input,
 6 the output or 7 the clock failed; 9 what came is no request; 10 no memory;
 11 1048576 requests were answered. One line on standard error says which.
+
+N is 1 to 50000, NUMBER up to 18446744073709551615, WORKERS 1 to 64.
 ";
 
 /// What `munged --version` prints.
@@ -89,14 +105,16 @@ fn end(rt: &HostRuntime, ending: Ending<'static>) -> ExitCode {
     ExitCode::from(ending.status())
 }
 
-fn main(rt: HostRuntime) -> ExitCode {
-    let words = match words_of(&rt) {
-        Ok(words) => words,
-        Err(ending) => return end(&rt, ending),
-    };
-    if let Some(text) = told_by(&words) {
-        return end(&rt, tell(&rt, text));
+/// The words ask for what one thread does over the standard streams, or for nothing.
+fn are_for_run(words: &[String]) -> bool {
+    match words.first() {
+        Some(word) => word.as_str() == "session" || word.as_str() == "check",
+        None => false,
     }
+}
+
+/// Runs a session or a check over the standard streams, the files and the clock.
+fn answer(rt: HostRuntime, words: &[String]) -> ExitCode {
     let Ok(stdin) = BufReader::new(rt.alloc(), rt.stdin()) else {
         return end(&rt, Ending::NoMemory);
     };
@@ -107,11 +125,49 @@ fn main(rt: HostRuntime) -> ExitCode {
     let mut clock = SystemClock::new(rt);
     ExitCode::from(munged_run(
         rt.alloc(),
-        words.as_slice(),
+        words,
         &mut files,
         &mut input,
         &mut out,
         &mut err,
         &mut clock,
     ))
+}
+
+/// Runs the daemon. Nothing that it does yet asks for a socket, a clock or a tick: there are none.
+fn serve(threads: &(impl Threads + Wait + Sync), rt: HostRuntime, words: &[String]) -> ExitCode {
+    let alloc = rt.alloc();
+    let mut files = DiskFiles::new(rt);
+    let wire = MemWire::new(alloc, Vec::new(alloc), Vec::new(alloc));
+    let mut hall = MemHall::new(Vec::new(alloc), wire, Vec::new(alloc));
+    let mut out = StdSink::new(rt.stdout());
+    let mut err = StdSink::new(rt.stderr());
+    let mut clocks = MemClocks::new(alloc, Vec::new(alloc));
+    let mut ticker = MemTicker::new(0, Vec::new(alloc));
+    let ended = munged_daemon(
+        threads,
+        alloc,
+        words,
+        &mut files,
+        &mut hall,
+        &mut out,
+        &mut err,
+        &mut clocks,
+        &mut ticker,
+    );
+    ExitCode::from(ended.status)
+}
+
+fn main(rt: HostRuntime) -> ExitCode {
+    let words = match words_of(&rt) {
+        Ok(words) => words,
+        Err(ending) => return end(&rt, ending),
+    };
+    if let Some(text) = told_by(&words) {
+        return end(&rt, tell(&rt, text));
+    }
+    if are_for_run(&words) {
+        return answer(rt, words.as_slice());
+    }
+    serve(&rt, rt, words.as_slice())
 }

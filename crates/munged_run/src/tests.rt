@@ -3,6 +3,7 @@
 mod check;
 mod ciphers;
 mod credential;
+mod exercise;
 mod faults;
 mod fixture;
 mod requests;

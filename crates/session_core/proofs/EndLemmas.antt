@@ -1,5 +1,5 @@
 -- What a turn leaves behind, for each way that it can go.
-use Rattle.std.proofs.Common.{◌≡◌, ℕ, ◌+◌, ◌<◌, ◌≤◌, ◌^◌, Bool, List, [], ◌∷◌, ◌++◌, length, take, drop, Option, refl, sym, ap, subst, arith, inl, inr}
+use Rattle.std.proofs.Common.{◌≡◌, ℕ, ◌+◌, ◌<◌, ◌≤◌, ◌^◌, Bool, List, [], ◌∷◌, ◌++◌, length, take, drop, Option, Err, refl, sym, ap, subst, arith, inl, inr}
 use Rattle.std.proofs.lemmas.List.{append-nil, length-append, length-drop, take-append-drop}
 use Rattle.std.specs.Io.KnownBytes.{Consumes, Appends}
 use Rattle.munge_types.specs.StandsFor.{Remembered, Stands}
@@ -11,7 +11,7 @@ use Rattle.wire_msg.specs.Spelling.{body_of, frame_of, kind_of}
 use Rattle.wire_msg.specs.declared.kind.Side.TheVariants.{Requests}
 use Rattle.wire_msg.specs.declared.message.Message.{Message}
 use Rattle.session_core.specs.Answering.{Own, is_last}
-use Rattle.session_core.specs.Reading.{ReadsNone, how_of}
+use Rattle.session_core.specs.Reading.{FindsEnd, KeepsEnds, ReadsNone, how_of}
 use Rattle.session_core.specs.Requests.{IsRequest}
 use Rattle.session_core.specs.Session.{Session}
 use Rattle.session_core.specs.SessionRan.{Beyond, IsProperPrefix, IsUntouched}
@@ -49,22 +49,22 @@ ended_unread session own before after taken readings state begins EndedInput sta
       leaves = λ _. (refl, none.1, read_alone_untouched [] own.events);
       moves = record { reads = kept_consumes before.left after.left none.0; ends_stay = ends; writes = appends_nothing taken; takes = consumes_nothing readings; stands = stands };
     }
-ended_unread session own before after taken readings state begins Malformed stands ends none =
+ended_unread session own before after taken readings state begins (Malformed count) stands ends none =
     record {
       beyond = read_alone none.bytes own.events;
-      leaves = λ _. (refl, none.holds, read_alone_untouched none.bytes own.events);
+      leaves = λ _. (refl, none.holds.1, read_alone_untouched none.bytes own.events);
       moves = record { reads = none.consumed; ends_stay = ends; writes = appends_nothing taken; takes = consumes_nothing readings; stands = stands };
     }
-ended_unread session own before after taken readings state begins ReadFault stands ends none =
+ended_unread session own before after taken readings state begins (ReadFault count) stands ends none =
     record {
       beyond = read_alone none.bytes own.events;
-      leaves = λ _. (none.holds, read_alone_untouched none.bytes own.events);
+      leaves = λ _. (none.holds.1, read_alone_untouched none.bytes own.events);
       moves = record { reads = none.consumed; ends_stay = ends; writes = appends_nothing taken; takes = consumes_nothing readings; stands = stands };
     }
-ended_unread session own before after taken readings state begins NoRoom stands ends none =
+ended_unread session own before after taken readings state begins (NoRoom count) stands ends none =
     record {
       beyond = read_alone none.bytes own.events;
-      leaves = λ _. (none.holds, inl (read_alone_untouched none.bytes own.events));
+      leaves = λ _. (none.holds.1, inl (read_alone_untouched none.bytes own.events));
       moves = record { reads = none.consumed; ends_stay = ends; writes = appends_nothing taken; takes = consumes_nothing readings; stands = stands };
     }
 
@@ -154,3 +154,10 @@ frame_length request = length-append (message_head (kind_of request) (length (bo
 pub begins_next : (begins begins' : ℕ) (request : Message) → IsRequest request → begins + 2097159 < 2 ^ 64
     → begins' ≡ place_after begins (length (frame_of request)) → begins' ≡ begins + length (frame_of request)
 begins_next begins begins' request fits far is = omega (arith, is, frame_length request, fits.within)
+
+-- what a read that brought no request found, said of how the session ends
+pub found_unread : (cause : Unread) (begins before now : ℕ) → KeepsEnds {T = Message} (Err cause) before now → FindsEnd (how_of cause begins) before now
+found_unread EndedInput begins before now kept = kept
+found_unread (Malformed count) begins before now kept = kept
+found_unread (ReadFault count) begins before now kept = kept
+found_unread (NoRoom count) begins before now kept = kept

@@ -7,6 +7,8 @@ pub mod RequestLemmas
 pub mod RulesBroken
 pub mod RunParts
 pub mod SealedOpens
+pub mod ServeLemmas
 pub mod SessionLemmas
 pub mod StreamLemmas
 pub mod TurnLemmas
+pub mod WholeLemmas

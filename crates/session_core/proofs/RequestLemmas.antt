@@ -18,8 +18,8 @@ use Rattle.wire_msg.specs.declared.fed.Fed.TheVariants as fed
 use Rattle.wire_msg.specs.declared.kind.Side.{Side}
 use Rattle.wire_msg.specs.declared.kind.Side.TheVariants.{Requests}
 use Rattle.wire_msg.specs.declared.message.Message.{Message}
-use Rattle.session_core.specs.Partial.{Comes, HeadRefused, KeepsOf, ReadsOn, Stops, Wants}
-use Rattle.session_core.specs.Reading.{IsLessThanOne, broken, cut, Reads, ReadsNone}
+use Rattle.session_core.specs.Partial.{Comes, HeadRefused, KeepsOf, ReadsOn, Stops, Wants, behind}
+use Rattle.session_core.specs.Reading.{Counted, IsLessThanOne, broken, cut, Reads, ReadsNone}
 use Rattle.session_core.specs.Things.{CameToEnd, Input}
 use Rattle.session_core.specs.declared.request.Progress.{Progress}
 use Rattle.session_core.specs.declared.request.Progress.TheVariants.{Whole, Partial}
@@ -65,11 +65,11 @@ zero_bytes n i =
 -- ---- frames
 
 -- a frame is a head and a body
-frame_size : (message : Message) → length (frame_of message) ≡ head_size + length (body_of message)
+pub frame_size : (message : Message) → length (frame_of message) ≡ head_size + length (body_of message)
 frame_size message = omega arith
 
 -- a length is spelled in one way
-be32_injective : (m n : ℕ) → m < 2 ^ 32 → n < 2 ^ 32 → be32 m ≡ be32 n → m ≡ n
+pub be32_injective : (m n : ℕ) → m < 2 ^ 32 → n < 2 ^ 32 → be32 m ≡ be32 n → m ≡ n
 be32_injective m n m_fits n_fits same =
     sym (from_be_bytes-to_be_bytes_4 m m_fits) ∙ ap (from_be_bytes w32) same ∙ from_be_bytes-to_be_bytes_4 n n_fits
 
@@ -279,14 +279,43 @@ reads_more a b c so_far so_far' P first second =
       holds = subst P joined second.holds;
     }
 
+-- so many bytes more are so many behind the first ones
+counted_more : (a b c : Input) (so_far so_far' : List ℕ) (earlier count : ℕ) (P : List ℕ → Type 0)
+    → length so_far' ≡ length so_far + earlier → Reads a b (λ bytes. so_far' ≡ so_far ++ bytes)
+    → Reads b c (Counted count (λ bytes. P (so_far' ++ bytes))) → Reads a c (Counted (earlier + count) (λ bytes. P (so_far ++ bytes)))
+counted_more a b c so_far so_far' earlier count P size first second =
+    let joined : so_far' ++ second.bytes ≡ so_far ++ (first.bytes ++ second.bytes) =
+    ap (λ l. l ++ second.bytes) first.holds ∙ append_assoc so_far first.bytes second.bytes in
+    let front = ap length first.holds in
+    record {
+      bytes = first.bytes ++ second.bytes;
+      consumed = consumes_more a.left b.left c.left first.bytes second.bytes first.consumed second.consumed;
+      holds = (
+        omega (arith, size, front, length-append so_far first.bytes, length-append first.bytes second.bytes, second.holds.0),
+        subst P joined second.holds.1,
+      );
+    }
+
 -- a stop in the rest of a request is one in all of it
-pub stops_more : (cause : Unread) (a b c : Input) (so_far so_far' : List ℕ) → a.ends ≤ b.ends → Reads a b (λ bytes. so_far' ≡ so_far ++ bytes)
-    → Stops cause so_far' b c → Stops cause so_far a c
-stops_more Ended a b c so_far so_far' stays first stops = absurd stops
-stops_more Malformed a b c so_far so_far' stays first stops =
-    (reads_more a b c so_far so_far' (IsUnfinished Requests) first stops.0, end_since a b c stays stops.1)
-stops_more ReadFault a b c so_far so_far' stays first stops = reads_more a b c so_far so_far' (IsUnfinished Requests) first stops
-stops_more NoMemory a b c so_far so_far' stays first stops = reads_more a b c so_far so_far' (IsFramePrefix Requests) first stops
+pub stops_more : (cause : Unread) (a b c : Input) (so_far so_far' : List ℕ) (earlier : ℕ) → length so_far' ≡ length so_far + earlier
+    → a.ends ≤ b.ends → Reads a b (λ bytes. so_far' ≡ so_far ++ bytes) → Stops cause so_far' b c → Stops (behind earlier cause) so_far a c
+stops_more Ended a b c so_far so_far' earlier size stays first stops = absurd stops
+stops_more (Malformed count) a b c so_far so_far' earlier size stays first stops =
+    (counted_more a b c so_far so_far' earlier count (IsUnfinished Requests) size first stops.0, end_since a b c stays stops.1)
+stops_more (ReadFault count) a b c so_far so_far' earlier size stays first stops =
+    counted_more a b c so_far so_far' earlier count (IsUnfinished Requests) size first stops
+stops_more (NoMemory count) a b c so_far so_far' earlier size stays first stops =
+    counted_more a b c so_far so_far' earlier count (IsFramePrefix Requests) size first stops
+
+-- what is wanted of a request is no more than a body and a head have
+pub wants_within : (bytes : List ℕ) (n : ℕ) → Wants bytes n → n ≤ head_size + body_limit
+wants_within bytes n wants =
+    let zeros : List ℕ = replicate n 0 in
+    let size : length zeros ≡ n = length-replicate n 0 in
+    let frame = wants.enough zeros (zero_bytes n) size in
+    let spelled = ap length frame.spelled in
+    let within = frame.is_message.within in
+    omega (arith, size, spelled, within, length-append bytes zeros, frame_size frame.message)
 
 -- so is what came of it
 pub reads_on_more : (a b c : Input) (kept kept' kept'' : Feeding) (progress : Progress) → kept'.begins ≡ kept.begins
@@ -300,7 +329,7 @@ reads_part : (a b : Input) (kept kept' : Feeding) (wanted : ℕ) → ReadsOn kep
     → Reads a b (λ bytes. kept'.unfinished ≡ kept.unfinished ++ bytes)
 reads_part a b kept kept' wanted reads = record { bytes = reads.bytes; consumed = reads.consumed; holds = reads.holds.1.0 }
 
-part_wants : (a b : Input) (kept kept' : Feeding) (wanted : ℕ) → ReadsOn kept a b (Partial wanted) kept' → Wants kept'.unfinished wanted
+pub part_wants : (a b : Input) (kept kept' : Feeding) (wanted : ℕ) → ReadsOn kept a b (Partial wanted) kept' → Wants kept'.unfinished wanted
 part_wants a b kept kept' wanted reads = subst (λ bytes. Wants bytes wanted) (sym reads.holds.1.0) reads.holds.0
 
 part_begins : (a b : Input) (kept kept' : Feeding) (wanted : ℕ) → ReadsOn kept a b (Partial wanted) kept' → kept'.begins ≡ kept.begins
@@ -323,39 +352,63 @@ wants_begun bytes n wants none =
     omega (arith, first, zero)
 
 -- what was read of a request's body is behind some bytes that were read before
-stopped : (a b c : Input) (so_far : List ℕ) → so_far ≢ [] → Reads a b (λ bytes. so_far ≡ bytes)
-    → Reads b c (λ more. IsUnfinished Requests (so_far ++ more)) → Reads a c (λ bytes. (bytes ≢ []) × IsUnfinished Requests bytes)
-stopped a b c so_far begun first second =
-    reads_more a b c [] so_far (λ bytes. (bytes ≢ []) × IsUnfinished Requests bytes) first
+stopped : (a b c : Input) (so_far : List ℕ) (count : ℕ) → so_far ≢ [] → Reads a b (λ bytes. so_far ≡ bytes)
+    → Reads b c (Counted count (λ more. IsUnfinished Requests (so_far ++ more)))
+    → Reads a c (Counted (length so_far + count) (λ bytes. (bytes ≢ []) × IsUnfinished Requests bytes))
+stopped a b c so_far count begun first second =
+    counted_more a b c [] so_far (length so_far) count (λ bytes. (bytes ≢ []) × IsUnfinished Requests bytes) (omega arith) first
     (record {
       bytes = second.bytes;
       consumed = second.consumed;
       holds = (
-        λ none.
-            let empty = ap length none in
-            begun (nil_from_length so_far (omega (arith, empty, length-append so_far second.bytes))),
-        second.holds,
+        second.holds.0,
+        (
+          λ none.
+              let empty = ap length none in
+              begun (nil_from_length so_far (omega (arith, empty, length-append so_far second.bytes))),
+          second.holds.1,
+        ),
       );
     })
 
 -- no request was read where its body stops
-pub body_none : (cause : Unread) (a b c : Input) (kept kept' : Feeding) (wanted : ℕ) → kept.unfinished ≡ [] → a.ends ≤ b.ends
-    → ReadsOn kept a b (Partial wanted) kept' → Stops cause kept'.unfinished b c → ReadsNone cause a c
-body_none Ended a b c kept kept' wanted none stays first stops = absurd stops
-body_none Malformed a b c kept kept' wanted none stays first stops =
+pub body_none : (cause : Unread) (a b c : Input) (kept kept' : Feeding) (wanted : ℕ) → kept.unfinished ≡ [] → length kept'.unfinished ≡ head_size
+    → a.ends ≤ b.ends → ReadsOn kept a b (Partial wanted) kept' → Stops cause kept'.unfinished b c → ReadsNone (behind head_size cause) a c
+body_none Ended a b c kept kept' wanted none head stays first stops = absurd stops
+body_none (Malformed count) a b c kept kept' wanted none head stays first stops =
     let begun = wants_begun kept'.unfinished wanted (part_wants a b kept kept' wanted first) in
-    let all = stopped a b c kept'.unfinished begun (reads_first a b kept kept' wanted none first) stops.0 in
+    let all = stopped a b c kept'.unfinished count begun (reads_first a b kept kept' wanted none first) stops.0 in
     record {
       bytes = all.bytes;
       consumed = all.consumed;
-      holds = cut (end_since a b c stays stops.1) all.holds.0 (unfinished_less all.bytes all.holds.1);
+      holds = (
+        all.holds.0 ∙ ap (λ n. n + count) head,
+        cut (end_since a b c stays stops.1) all.holds.1.0 (unfinished_less all.bytes all.holds.1.1),
+      );
     }
-body_none ReadFault a b c kept kept' wanted none stays first stops =
+body_none (ReadFault count) a b c kept kept' wanted none head stays first stops =
     let begun = wants_begun kept'.unfinished wanted (part_wants a b kept kept' wanted first) in
-    let all = stopped a b c kept'.unfinished begun (reads_first a b kept kept' wanted none first) stops in
-    record { bytes = all.bytes; consumed = all.consumed; holds = unfinished_less all.bytes all.holds.1 }
-body_none NoMemory a b c kept kept' wanted none stays first stops =
-    reads_more a b c [] kept'.unfinished (IsFramePrefix Requests) (reads_first a b kept kept' wanted none first) stops
+    let all = stopped a b c kept'.unfinished count begun (reads_first a b kept kept' wanted none first) stops in
+    record {
+      bytes = all.bytes;
+      consumed = all.consumed;
+      holds = (all.holds.0 ∙ ap (λ n. n + count) head, unfinished_less all.bytes all.holds.1.1);
+    }
+body_none (NoMemory count) a b c kept kept' wanted none head stays first stops =
+    counted_more a b c [] kept'.unfinished head_size count (IsFramePrefix Requests) (omega (arith, head)) (reads_first a b kept kept' wanted none first) stops
+
+-- the head of a request is a front of it
+pub head_unread : (a b : Input) (kept kept' : Feeding) (wanted : ℕ) → kept.unfinished ≡ [] → length kept'.unfinished ≡ head_size
+    → ReadsOn kept a b (Partial wanted) kept' → ReadsNone (NoMemory head_size) a b
+head_unread a b kept kept' wanted none head first =
+    let read = reads_first a b kept kept' wanted none first in
+    let wants = part_wants a b kept kept' wanted first in
+    let prefix = part_prefix kept'.unfinished [] wanted wants (λ i. lit< tt) (omega arith) in
+    record {
+      bytes = kept'.unfinished;
+      consumed = subst (Consumes a.left b.left) (sym read.holds) read.consumed;
+      holds = (head, subst (IsFramePrefix Requests) (append-nil kept'.unfinished) prefix);
+    }
 
 -- where a feeder kept nothing before, all of a request that it kept part of was read
 request_whole : (a b : Input) (kept kept' : Feeding) (request : Message) → kept.unfinished ≡ [] → ReadsOn kept a b (Whole request) kept'
@@ -374,6 +427,8 @@ body_read a b c kept kept' kept'' wanted request none first second =
 pub head_none : (cause : Unread) (a b : Input) (head : List ℕ) → length head ≡ head_size → Consumes a.left b.left head
     → HeadRefused cause head → ReadsNone cause a b
 head_none Ended a b head seven read refused = absurd refused
-head_none Malformed a b head seven read refused = record { bytes = head; consumed = read; holds = broken seven refused }
-head_none ReadFault a b head seven read refused = absurd refused
-head_none NoMemory a b head seven read refused = record { bytes = head; consumed = read; holds = refused }
+head_none (Malformed count) a b head seven read refused =
+    record { bytes = head; consumed = read; holds = (seven ∙ sym refused.0, broken seven refused.1) }
+head_none (ReadFault count) a b head seven read refused = absurd refused
+head_none (NoMemory count) a b head seven read refused =
+    record { bytes = head; consumed = read; holds = (seven ∙ sym refused.0, refused.1) }

@@ -1,15 +1,18 @@
 -- A request of which a part came.
-use Rattle.std.specs.Prelude.{◌≡◌, ℕ, ◌<◌, ◌≤◌, List, [], ◌++◌, length}
+use Rattle.std.specs.Prelude.{◌≡◌, ℕ, ◌+◌, ◌<◌, ◌≤◌, List, [], ◌++◌, length}
 use Rattle.munge_types.specs.Bytes.{IsBytes}
 use Rattle.wire_msg.specs.Feeding.{Feeding, place_after}
 use Rattle.wire_msg.specs.Frame.{IsFrame, IsFramePrefix, IsUnfinished}
+use Rattle.wire_msg.specs.FrameHead.{head_size}
 use Rattle.wire_msg.specs.Spelling.{frame_of}
 use Rattle.wire_msg.specs.declared.kind.Side.TheVariants.{Requests}
-use Rattle.session_core.specs.Reading.{Reads}
+use Rattle.session_core.specs.Reading.{Counted, Reads}
 use Rattle.session_core.specs.Requests.{IsRequest}
 use Rattle.session_core.specs.Things.{CameToEnd, Input}
 use Rattle.session_core.specs.declared.request.Progress.{Progress}
 use Rattle.session_core.specs.declared.request.Progress.TheVariants.{Whole, Partial}
+use Rattle.session_core.specs.declared.served.ServeEnd.{ServeEnd}
+use Rattle.session_core.specs.declared.served.ServeEnd.TheVariants as how
 use Rattle.session_core.specs.declared.request.Unread.{Unread}
 use Rattle.session_core.specs.declared.request.Unread.TheVariants.{Ended, Malformed, ReadFault, NoMemory}
 
@@ -38,6 +41,37 @@ ReadsOn kept before after progress kept' =
     Comes (kept.unfinished ++ bytes) progress
     × KeepsOf kept.begins (kept.unfinished ++ bytes) progress kept')
 
+-- a request that is not whole has a head
+abbrev pub KeepsHead : Progress → (kept : List ℕ) → Type 0
+KeepsHead (Whole request) kept = Unit {0}
+KeepsHead (Partial wanted) kept = length kept ≡ head_size
+
+-- what was wanted and came is kept
+abbrev pub Grows : (wanted : ℕ) (bytes : List ℕ) → Progress → (bytes' : List ℕ) → Type 0
+Grows wanted bytes (Whole request) bytes' = Unit {0}
+Grows wanted bytes (Partial wanted') bytes' = length bytes' + wanted' ≡ length bytes + wanted
+
+-- how many bytes of a request were read that did not come
+abbrev pub count_of : Unread → ℕ
+count_of Ended = 0
+count_of (Malformed count) = count
+count_of (ReadFault count) = count
+count_of (NoMemory count) = count
+
+-- the same, where so many bytes were read before these
+abbrev pub behind : (earlier : ℕ) → Unread → Unread
+behind earlier Ended = Ended
+behind earlier (Malformed count) = Malformed (earlier + count)
+behind earlier (ReadFault count) = ReadFault (earlier + count)
+behind earlier (NoMemory count) = NoMemory (earlier + count)
+
+-- how a connection ends that brought no request, for each cause
+abbrev pub end_of : Unread → ServeEnd
+end_of Ended = how.Quiet
+end_of (Malformed count) = how.Malformed
+end_of (ReadFault count) = how.ReadFault
+end_of (NoMemory count) = how.NoMemory
+
 -- fewer bytes are wanted than before, if any
 abbrev pub IsNearer : (wanted : ℕ) → Progress → Type 0
 IsNearer wanted (Whole request) = Unit {0}
@@ -46,16 +80,18 @@ IsNearer wanted (Partial wanted') = wanted' < wanted
 -- why the bytes of a head make no request
 abbrev pub HeadRefused : Unread → (head : List ℕ) → Type 0
 HeadRefused Ended head = ⊥
-HeadRefused Malformed head = ¬ IsFramePrefix Requests head
-HeadRefused ReadFault head = ⊥
-HeadRefused NoMemory head = IsFramePrefix Requests head
+HeadRefused (Malformed count) head =
+    (count ≡ head_size) × ¬ IsFramePrefix Requests head
+HeadRefused (ReadFault count) head = ⊥
+HeadRefused (NoMemory count) head = (count ≡ head_size) × IsFramePrefix Requests head
 
 -- what was read behind these bytes of a request where no more of it came, for each cause
 abbrev pub Stops : Unread → (bytes : List ℕ) (before after : Input) → Type 0
 Stops Ended bytes before after = ⊥
-Stops Malformed bytes before after =
-    Reads before after (λ more. IsUnfinished Requests (bytes ++ more)) × CameToEnd before after
-Stops ReadFault bytes before after =
-    Reads before after (λ more. IsUnfinished Requests (bytes ++ more))
-Stops NoMemory bytes before after =
-    Reads before after (λ more. IsFramePrefix Requests (bytes ++ more))
+Stops (Malformed count) bytes before after =
+    Reads before after (Counted count (λ more. IsUnfinished Requests (bytes ++ more)))
+    × CameToEnd before after
+Stops (ReadFault count) bytes before after =
+    Reads before after (Counted count (λ more. IsUnfinished Requests (bytes ++ more)))
+Stops (NoMemory count) bytes before after =
+    Reads before after (Counted count (λ more. IsFramePrefix Requests (bytes ++ more)))

@@ -105,7 +105,7 @@ pub(crate) fn make_answer<C: Clock, R: Replay>(
 }
 
 /// The answer to Stop: only a caller who has control may stop.
-fn bye(alloc: Global, who: Identity) -> Result<Vec<u8>, NoMemory>
+pub(crate) fn bye(alloc: Global, who: Identity) -> Result<Vec<u8>, NoMemory>
     ensures { let status = status_number (stop_status who) in
         IfOk result (λ reply. reply.items ≡ frame_of (Bye status)) }
 {

@@ -41,7 +41,7 @@ pub(crate) fn encode(
 }
 
 /// The reply to what is asked, sealed with the salt and the initial vector that were drawn.
-fn seal_reply(
+pub(crate) fn seal_reply(
     alloc: Global,
     world: &World,
     who: Identity,

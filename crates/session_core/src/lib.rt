@@ -1,4 +1,6 @@
-//! One session: requests are read from a stream, and each is answered on another.
+//! One session: requests are read from a stream, and each is answered on another. And one
+//! connection: one request is read, answered on a gate that threads share, and the reply is written
+//! back.
 #![tactic(auto)]
 
 mod answer;
@@ -6,9 +8,16 @@ mod decode;
 mod encode;
 mod end;
 pub mod laws;
+mod reached;
 mod request;
 mod run;
+mod serve;
+mod served;
+#[cfg(test)]
+mod tests;
 mod turn;
 
 pub use end::{HowEnded, SessionEnd};
 pub use run::session;
+pub use serve::serve_one;
+pub use served::{ServeEnd, Served};

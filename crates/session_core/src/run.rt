@@ -7,12 +7,14 @@ ghost use Rattle.munge_types.specs.declared.history.Event.{Event};
 ghost use Rattle.wire_msg.specs.declared.kind.Side.TheVariants.{Requests};
 ghost use Rattle.decode_rules.specs.Terms.{IsMadeOf, WorldFiles};
 ghost use Rattle.session_core.specs.AllLive.{AllLive};
+ghost use Rattle.session_core.specs.Reading.{FindsEnd};
 ghost use Rattle.session_core.specs.RunSoFar.{IsAsked};
 ghost use Rattle.session_core.specs.Seed.{place_of, seed_of};
 ghost use Rattle.session_core.specs.Session.{session_of};
 ghost use Rattle.session_core.specs.SessionRan.{SessionRan};
 ghost use Rattle.session_core.specs.Things.{input_of, outside_of, things_of};
 
+use crate::request::PIECE_SIZE;
 use crate::turn::take_turn;
 use crate::{HowEnded, SessionEnd};
 use byte_io::{Clock, FullRead, Sink, Source, read_full};
@@ -24,9 +26,6 @@ use wire_msg::{Feeder, Side};
 
 /// The most requests that one session answers.
 const REQUEST_LIMIT: u32 = 1_048_576;
-
-/// The most bytes of a request's body that one read asks for.
-const PIECE_SIZE: usize = 65_536;
 
 /// Reads requests from `input`, one after another, and writes a reply to each to `out`, until the
 /// input ends between two of them, a caller who has control asks to stop, something fails, or
@@ -69,6 +68,7 @@ pub fn session<I: Source, O: Sink, C: Clock, R: Replay>(
         → O.write_faults out.new ≡ O.write_faults out.old }
     ensures clock_sound { result.how ≢ HowEnded.ClockFault
         → C.clock_faults clock.new ≡ C.clock_faults clock.old }
+    ensures found { FindsEnd result.how (I.ends input.old) (I.ends input.new) }
 {
     let Ok(mut buffer) = vec![in alloc; 0u8; PIECE_SIZE] else {
         return SessionEnd {
@@ -132,6 +132,7 @@ fn answer_all<I: Source, O: Sink, C: Clock, R: Replay>(
         → O.write_faults out.new ≡ O.write_faults out.old }
     ensures clock_sound { result.how ≢ HowEnded.ClockFault
         → C.clock_faults clock.new ≡ C.clock_faults clock.old }
+    ensures found { FindsEnd result.how (I.ends input.old) (I.ends input.new) }
 {
     let mut entries = 0;
     'requests: for answered in 0..REQUEST_LIMIT {
@@ -177,6 +178,7 @@ fn end_of_budget<I: Source>(input: &mut I) -> HowEnded
     ensures reads_sound { result ≢ HowEnded.ReadFault
         → I.read_faults input.new ≡ I.read_faults input.old }
     ensures ends_stay { I.ends input.old ≤ I.ends input.new }
+    ensures found { FindsEnd result (I.ends input.old) (I.ends input.new) }
 {
     let mut byte = [0; 1];
     match read_full(input, &mut byte) {

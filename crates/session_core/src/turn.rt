@@ -23,7 +23,7 @@ ghost use Rattle.wire_msg.specs.declared.kind.Side.TheVariants.{Requests};
 ghost use Rattle.decode_rules.specs.Terms.{IsMadeOf, WorldFiles};
 ghost use Rattle.session_core.specs.AllLive.{AllLive};
 ghost use Rattle.session_core.specs.Answering.{Own, is_last};
-ghost use Rattle.session_core.specs.Reading.{how_of};
+ghost use Rattle.session_core.specs.Reading.{FindsEnd, how_of};
 ghost use Rattle.session_core.specs.Seed.{place_of, seed_of};
 ghost use Rattle.session_core.specs.Session.{session_of};
 ghost use Rattle.session_core.specs.Things.{input_of, outside_of, things_of};
@@ -110,6 +110,8 @@ pub(crate) fn take_turn<I: Source, O: Sink, C: Clock, R: Replay>(
     ensures clock_sound { result ≢ Err HowEnded.ClockFault
         → C.clock_faults clock.new ≡ C.clock_faults clock.old }
     ensures ends_stay { I.ends input.old ≤ I.ends input.new }
+    ensures ends_kept { OnOk result (I.ends input.new ≡ I.ends input.old) }
+    ensures found { IfErr result (λ how. FindsEnd how (I.ends input.old) (I.ends input.new)) }
 
     ensures live { AllLive (R.remembered replay.old) → AllLive (R.remembered replay.new) }
 {
@@ -133,7 +135,7 @@ pub(crate) fn take_turn<I: Source, O: Sink, C: Clock, R: Replay>(
 }
 
 /// Whether the session is over once this request is answered.
-fn stops(who: Identity, request: &Message) -> bool
+pub(crate) fn stops(who: Identity, request: &Message) -> bool
     ensures { result ≡ is_last who request.now }
 {
     match request {
@@ -149,8 +151,8 @@ fn ended_by(cause: Unread, begins: u64) -> HowEnded
 {
     match cause {
         Unread::Ended => HowEnded::Done,
-        Unread::Malformed => HowEnded::Malformed(begins),
-        Unread::ReadFault => HowEnded::ReadFault,
-        Unread::NoMemory => HowEnded::NoMemory,
+        Unread::Malformed(_) => HowEnded::Malformed(begins),
+        Unread::ReadFault(_) => HowEnded::ReadFault,
+        Unread::NoMemory(_) => HowEnded::NoMemory,
     }
 }

@@ -66,6 +66,10 @@ impl Sink for MemSink {
 
     ghost write_faults = { λ s. s.faults };
 
+    ghost BesideWrites = { Unit {0} };
+
+    ghost beside_writes = { λ _. tt };
+
     fn write(&mut self, from: &[u8]) -> Result<usize, Failed>
         ensures planned { Contains self.old.fails (raised self.old.writes) → IsErr result }
         ensures whole { IfOk result (λ n. n ≡ length from.now) }

@@ -74,6 +74,14 @@ impl MemSource {
             ends: 0,
         }
     }
+
+    /// Gives `bytes` from now on, in place of those that were left.
+    pub(super) fn refill(&mut self, bytes: Vec<u8>)
+        ensures { self.new ≡ record self.old { left = bytes.items } }
+    {
+        self.bytes = bytes;
+        self.at = 0;
+    }
 }
 
 /// The most that one read gives into so much room.
@@ -106,6 +114,10 @@ impl Source for MemSource {
     ghost read_faults = { λ s. s.faults };
 
     ghost ends = { λ s. s.ends };
+
+    ghost BesideReads = { Unit {0} };
+
+    ghost beside_reads = { λ _. tt };
 
     fn read(&mut self, into: &mut [u8]) -> Result<usize, Failed>
         ensures within { IfOk result (λ n. n ≤ length into.new) }

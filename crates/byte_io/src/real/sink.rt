@@ -51,6 +51,10 @@ impl<W: Write + Drop> Sink for StdSink<W> {
 
     ghost write_faults = { λ s. s.faults };
 
+    ghost BesideWrites = { Unit {0} };
+
+    ghost beside_writes = { λ _. tt };
+
     fn write(&mut self, from: &[u8]) -> Result<usize, Failed> {
         match write_through_signals(&mut self.to, from) {
             Ok(n) if n > 0 || from.is_empty() => Ok(n),

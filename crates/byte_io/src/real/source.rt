@@ -58,6 +58,10 @@ impl<R: Read + Drop> Source for StdSource<R> {
 
     ghost ends = { λ s. s.ends };
 
+    ghost BesideReads = { Unit {0} };
+
+    ghost beside_reads = { λ _. tt };
+
     fn read(&mut self, into: &mut [u8]) -> Result<usize, Failed> {
         match read_through_signals(&mut self.from, into) {
             Ok(n) => {

@@ -1,7 +1,8 @@
 //! The forms in memory.
 
 use crate::{
-    Clock, FileFail, Files, MemClock, MemFiles, MemSink, MemSource, NamedFile, Sink, Source,
+    Clock, Clocks, FileFail, Files, MemClock, MemClocks, MemFiles, MemSink, MemSource, NamedFile,
+    Sink, Source,
 };
 use munge_types::Failed;
 use std::test::Fail;
@@ -66,6 +67,21 @@ fn clock_gives_its_readings_in_order(rt: HostRuntime) -> Result<(), Fail> {
     let mut clock = MemClock::new(vec![in rt.alloc(); 1000, 999]?, vec![in rt.alloc(); 2]?);
     for want in [Ok(1000), Err(Failed), Ok(999), Err(Failed), Err(Failed)] {
         assert_eq!(rt; clock.now(), want);
+    }
+    Ok(())
+}
+
+#[test]
+fn clocks_are_given_in_order_and_then_without_readings(rt: HostRuntime) -> Result<(), Fail> {
+    let mut lists = Vec::new(rt.alloc());
+    lists.push(vec![in rt.alloc(); 10, 20]?)?;
+    lists.push(vec![in rt.alloc(); 30]?)?;
+    let mut clocks = MemClocks::new(rt.alloc(), lists);
+    for (row, want) in [Ok(10), Ok(30), Err(Failed), Err(Failed)]
+        .into_iter()
+        .enumerate()
+    {
+        assert_eq!(rt; clocks.one().now(), want, "in row {row}");
     }
     Ok(())
 }

@@ -14,4 +14,5 @@ put-preserved g c =
       subst (Appends _ _) (sym (take-rest_more at (length from - at) n from (omega arith)))
           (appends_more _ _ _ _ _ c.put.invariant.1 c.in-Ok.ensures.appended),
       c.in-Ok.ensures.sound ∙ c.put.invariant.2,
+      c.in-Ok.ensures.beside ∙ c.put.invariant.3,
     )

@@ -14,4 +14,5 @@ fill-preserved g c =
           (consumes_more _ _ _ _ _ c.fill.invariant.1 c.in-Ok.ensures.consumed.0),
       c.in-Ok.ensures.sound ∙ c.fill.invariant.2,
       c.in-Ok.ensures.open some ∙ c.fill.invariant.3,
+      c.in-Ok.ensures.beside ∙ c.fill.invariant.4,
     )

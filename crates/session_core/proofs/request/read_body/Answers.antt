@@ -1,3 +1,4 @@
+use Rattle.std.proofs.Common.{◌-◌, arith}
 use Rattle.session_core.proofs.RequestLemmas.{reads_on_more, stops_more}
 use Rattle.session_core.specs.declared.request.Progress.TheVariants.{Whole}
 use Rattle.session_core.specs.Things.{input_of}
@@ -16,5 +17,7 @@ returns-in-Err-clause-none g c =
     let before = input_of (g.I.Source.left c.args.input.now) (g.I.Source.ends c.args.input.now) in
     let between = input_of (g.I.Source.left c.pieces.input) (g.I.Source.ends c.pieces.input) in
     let after = input_of (g.I.Source.left c.read_piece.new.input) (g.I.Source.ends c.read_piece.new.input) in
-    stops_more c.in-Err.cause before between after c.args.feeder.now.unfinished c.pieces.feeder.unfinished
-    c.pieces.invariant.ends c.pieces.invariant.read c.in-Err.ensures.none
+    rw c.behind.ensures
+    (stops_more c.in-Err.cause before between after c.args.feeder.now.unfinished c.pieces.feeder.unfinished (c.args.wanted - c.pieces.wanted)
+    (let less = c.pieces.invariant.less in omega (arith, less, c.pieces.invariant.grown))
+    c.pieces.invariant.ends c.pieces.invariant.read c.in-Err.ensures.none)

@@ -17,6 +17,10 @@ returns-in-Full-clause-none g c =
 
 pub returns-in-Failed-clause-none : goal.returns-in-Failed-clause-none
 returns-in-Failed-clause-none g c =
-    let read = take c.in-Failed.field-0 c.read_full.new.into in
-    let below : c.in-Failed.field-0 < length c.read_full.new.into = c.in-Failed.ensures.below in
-    record { bytes = read; consumed = c.in-Failed.ensures.consumed; holds = short_head read (simp length-take (omega arith)) }
+    let read = take c.in-Failed.count c.read_full.new.into in
+    let below : c.in-Failed.count < length c.read_full.new.into = c.in-Failed.ensures.below in
+    record {
+      bytes = read;
+      consumed = c.in-Failed.ensures.consumed;
+      holds = (simp length-take (omega arith), short_head read (simp length-take (omega arith)));
+    }

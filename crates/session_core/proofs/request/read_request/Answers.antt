@@ -1,29 +1,33 @@
-use Rattle.std.proofs.lemmas.Result.{IfErr-weaker, IfOk-weaker}
-use Rattle.session_core.proofs.RequestLemmas.{body_none, body_read}
-use Rattle.session_core.specs.Partial.{ReadsOn, Stops}
-use Rattle.session_core.specs.Reading.{ReadsNone}
+use Rattle.std.proofs.Common.{◌<◌, ◌≤◌, ◌+◌, ◌^◌, arith}
+use Rattle.session_core.proofs.RequestLemmas.{body_none, body_read, part_wants, wants_within}
+use Rattle.session_core.specs.Partial.{Wants}
 use Rattle.session_core.specs.Things.{input_of}
-use Rattle.session_core.specs.declared.request.Progress.TheVariants.{Whole}
 use Rattle.session_core.proofs.request.read_request.Goals as goal
 
-pub returns-in-Ok-Partial-clause-read : goal.returns-in-Ok-Partial-clause-read
-returns-in-Ok-Partial-clause-read g c =
+pub behind-requires : goal.behind-requires
+behind-requires g c =
     let before = input_of (g.I.Source.left c.args.input.now) (g.I.Source.ends c.args.input.now) in
     let between = input_of (g.I.Source.left c.read_head.new.input) (g.I.Source.ends c.read_head.new.input) in
-    let after = input_of (g.I.Source.left c.read_body.new.input) (g.I.Source.ends c.read_body.new.input) in
-    IfOk-weaker c.read_body.result (λ request. ReadsOn c.read_head.new.feeder between after (Whole request) c.read_body.new.feeder) _
-    (λ request second.
-    body_read before between after c.args.feeder.now c.read_head.new.feeder c.read_body.new.feeder c.in-Ok-Partial.wanted request
-    c.requires.between (rw c.in-Ok-Partial.field-0-is at c.in-Ok-Partial.ensures.read) second)
-    c.read_body.ensures.read
+    let wanted = wants_within c.read_head.new.feeder.unfinished c.in-Ok-Partial.wanted
+    (part_wants before between c.args.feeder.now c.read_head.new.feeder c.in-Ok-Partial.wanted
+    (rw c.in-Ok-Partial.field-0-is at c.in-Ok-Partial.ensures.read)) in
+    let within = c.in-Err-read_body.ensures.within in
+    omega (arith, wanted, within)
 
-pub returns-in-Ok-Partial-clause-none : goal.returns-in-Ok-Partial-clause-none
-returns-in-Ok-Partial-clause-none g c =
+pub returns-in-Ok-clause-read : goal.returns-in-Ok-clause-read
+returns-in-Ok-clause-read g c =
     let before = input_of (g.I.Source.left c.args.input.now) (g.I.Source.ends c.args.input.now) in
     let between = input_of (g.I.Source.left c.read_head.new.input) (g.I.Source.ends c.read_head.new.input) in
     let after = input_of (g.I.Source.left c.read_body.new.input) (g.I.Source.ends c.read_body.new.input) in
-    IfErr-weaker c.read_body.result (λ cause. Stops cause c.read_head.new.feeder.unfinished between after) (λ cause. ReadsNone cause before after)
-    (λ cause stops.
-    body_none cause before between after c.args.feeder.now c.read_head.new.feeder c.in-Ok-Partial.wanted c.requires.between
-    c.in-Ok-Partial.ensures.ends_stay (rw c.in-Ok-Partial.field-0-is at c.in-Ok-Partial.ensures.read) stops)
-    c.read_body.ensures.none
+    body_read before between after c.args.feeder.now c.read_head.new.feeder c.read_body.new.feeder c.in-Ok-Partial.wanted c.in-Ok.request
+    c.requires.between (rw c.in-Ok-Partial.field-0-is at c.in-Ok-Partial.ensures.read) c.in-Ok.ensures.read
+
+pub returns-in-Err-read_body-clause-none : goal.returns-in-Err-read_body-clause-none
+returns-in-Err-read_body-clause-none g c =
+    let before = input_of (g.I.Source.left c.args.input.now) (g.I.Source.ends c.args.input.now) in
+    let between = input_of (g.I.Source.left c.read_head.new.input) (g.I.Source.ends c.read_head.new.input) in
+    let after = input_of (g.I.Source.left c.read_body.new.input) (g.I.Source.ends c.read_body.new.input) in
+    rw c.behind.ensures
+    (body_none c.in-Err-read_body.cause before between after c.args.feeder.now c.read_head.new.feeder c.in-Ok-Partial.wanted c.requires.between
+    (rw c.in-Ok-Partial.field-0-is at c.in-Ok-Partial.ensures.head)
+    c.in-Ok-Partial.ensures.ends_stay (rw c.in-Ok-Partial.field-0-is at c.in-Ok-Partial.ensures.read) c.in-Err-read_body.ensures.none)

@@ -1,3 +1,4 @@
+use Rattle.std.proofs.Common.{refl}
 use Rattle.session_core.proofs.RequestLemmas.{head_comes, head_no_memory, head_wants}
 use Rattle.session_core.proofs.request.take_head.Goals as goal
 
@@ -14,4 +15,4 @@ returns-in-Ok-More-clause-comes c =
 
 pub returns-in-Err-clause-refused : goal.returns-in-Err-clause-refused
 returns-in-Err-clause-refused c =
-    head_no_memory c.args.feeder.now c.args.head.now c.requires.side c.requires.between c.told-head c.in-Err.ensures.wants_memory
+    (refl, head_no_memory c.args.feeder.now c.args.head.now c.requires.side c.requires.between c.told-head c.in-Err.ensures.wants_memory)

@@ -1,4 +1,5 @@
-use Rattle.std.proofs.Common.{◌≡◌, refl, arith, ◌∙◌}
+use Rattle.std.proofs.Common.{◌≡◌, ◌≤◌, refl, arith, subst, ◌∙◌}
+use Rattle.session_core.specs.Reading.{FindsEnd}
 use Rattle.session_core.specs.Seed.{seed_of}
 use Rattle.session_core.specs.Session.{session_of}
 use Rattle.session_core.specs.SessionRan.{request_limit}
@@ -17,6 +18,7 @@ requests-init g c = record {
   begins_bound = omega (arith, c.requires.begins);
   entries_bound = omega arith;
   room = c.requires.room;
+  ends_kept = refl;
   reads_sound = refl;
   writes_sound = refl;
   clock_sound = refl;
@@ -35,6 +37,7 @@ requests-preserved g c = record {
   begins_bound = omega (arith, c.in-Ok.ensures.begins_bound, c.requests.invariant.begins_bound);
   entries_bound = omega (arith, c.in-Ok.ensures.entries_bound, c.requests.invariant.entries_bound);
   room = omega (arith, c.requests.invariant.room, c.take_turn.auto.buffer);
+  ends_kept = c.in-Ok.ensures.ends_kept ∙ c.requests.invariant.ends_kept;
   reads_sound = c.in-Ok.ensures.reads_sound (λ same. cc) ∙ c.requests.invariant.reads_sound;
   writes_sound = c.in-Ok.ensures.writes_sound (λ same. cc) ∙ c.requests.invariant.writes_sound;
   clock_sound = c.in-Ok.ensures.clock_sound (λ same. cc) ∙ c.requests.invariant.clock_sound;
@@ -58,3 +61,15 @@ returns-clause-ran g c = λ files base is stands.
     let so_far = rw all at (c.requests.invariant.so_far files base is stands) in
     so_far_over (session_of c.args.world.now c.args.who files (seed_of c.args.dice.now) base) _ _ _ _ _ _ _ _ c.end_of_budget.result so_far
     c.end_of_budget.ensures.ends_stay c.end_of_budget.ensures.asked
+
+pub returns-then-turned-clause-found : goal.returns-then-turned-clause-found
+returns-then-turned-clause-found g c =
+    let same = c.in-Ok.ensures.ends_kept ∙ c.requests.invariant.ends_kept in omega (arith, same)
+
+pub returns-in-Err-clause-found : goal.returns-in-Err-clause-found
+returns-in-Err-clause-found g c =
+    subst (λ before. FindsEnd c.in-Err.how before (g.I.Source.ends c.take_turn.new.input)) c.requests.invariant.ends_kept c.in-Err.ensures.found
+
+pub returns-clause-found : goal.returns-clause-found
+returns-clause-found g c =
+    subst (λ before. FindsEnd c.end_of_budget.result before (g.I.Source.ends c.end_of_budget.new.input)) c.requests.invariant.ends_kept c.end_of_budget.ensures.found

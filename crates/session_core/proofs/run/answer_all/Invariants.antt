@@ -27,6 +27,7 @@ invariant-requests g l = record {
   begins_bound : l.feeder.begins ≤ 2097159 * l.answered;
   entries_bound : l.entries ≤ 2 * l.answered;
   room : 1 ≤ length l.buffer;
+  ends_kept : g.I.Source.ends l.input ≡ g.I.Source.ends l.initial.input;
   reads_sound : g.I.Source.read_faults l.input ≡ g.I.Source.read_faults l.initial.input;
   writes_sound : g.O.Sink.write_faults l.out ≡ g.O.Sink.write_faults l.initial.out;
   clock_sound : g.C.Clock.clock_faults l.clock ≡ g.C.Clock.clock_faults l.initial.clock;

@@ -1,6 +1,6 @@
 use Rattle.session_core.specs.Seed.{seed_of}
 use Rattle.session_core.specs.Session.{session_of}
-use Rattle.session_core.proofs.EndLemmas.{begins_next, ended_unread, ended_unclocked, ended_unanswered, ended_cut, turned_whole}
+use Rattle.session_core.proofs.EndLemmas.{begins_next, found_unread, ended_unread, ended_unclocked, ended_unanswered, ended_cut, turned_whole}
 use Rattle.session_core.proofs.turn.take_turn.Goals as goal
 
 pub returns-in-Err-clause-ended : goal.returns-in-Err-clause-ended
@@ -35,3 +35,7 @@ returns-clause-ended g c = λ files base own is stands at.
     c.in-Ok-make_answer.answer.reply.items _
     c.in-Ok.ensures.fits c.in-Ok.ensures.ends_stay c.in-Ok.ensures.read (c.in-Ok-make_answer.ensures.answered files base own is stands at)
     (rw c.deref.ensures.value at c.in-Failed.ensures.appended) (rw c.deref.ensures.value at c.in-Failed.ensures.below)
+
+pub returns-in-Err-clause-found : goal.returns-in-Err-clause-found
+returns-in-Err-clause-found g c =
+    rw c.ended_by.ensures (found_unread c.in-Err.cause _ _ _ c.in-Err.ensures.ends_kept)

@@ -1,0 +1,4 @@
+mod LoadTexts
+mod OneLoad
+mod ReadyTexts
+mod WordPlaces

@@ -1,0 +1,5 @@
+pub mod Credentials
+pub mod Load
+pub mod Presented
+pub mod Words
+pub mod WorkedWords

@@ -1,0 +1,10 @@
+pub mod Account
+pub mod Accounts
+pub mod Deals
+pub mod Drawings
+pub mod Gathers
+pub mod Joins
+pub mod Ran
+pub mod Runs
+pub mod Tells
+pub mod Totals

@@ -1,0 +1,11 @@
+pub mod Account
+pub mod Dealing
+pub mod Drawing
+pub mod Entering
+pub mod Joining
+pub mod Lanes
+pub mod Pool
+pub mod Serving
+pub mod Standing
+pub mod Tally
+pub mod Work
