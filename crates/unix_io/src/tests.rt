@@ -1,0 +1,1 @@
+//! Halls over real sockets.

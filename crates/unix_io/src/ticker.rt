@@ -1,0 +1,72 @@
+//! A ticker that sleeps.
+
+ghost use Rattle.std.specs.Prelude.{◌≡◌, None, IfOk};
+ghost use Rattle.unix_io.specs.Idle.{Idle};
+
+use crate::hall::UnixHall;
+use crate::shared::Shared;
+use crate::state::Seen;
+use byte_io::{Tick, Ticker};
+use munge_types::NoMemory;
+use std::alloc::Global;
+use std::net::Net;
+use std::rt;
+use std::sync::{Arc, Wait};
+use std::time::{Duration, Instant};
+
+/// It is due after so many seconds, again and again. It stops at once where the stop flag of its
+/// hall goes up, and where every door that the hall opened is over or has failed. How often it will
+/// be due it does not tell.
+#[derive(Drop)]
+pub struct SleepTicker<R> {
+    rt: R,
+    shared: Arc<Shared, Global>,
+    seconds: u32,
+    seen: Seen,
+    faults: u64,
+}
+
+impl<R: rt::Files + Net + rt::Clock + Wait + Copy + Send> SleepTicker<R> {
+    /// The ticker that ends with that hall's doors. It is due after each `seconds` seconds, counted
+    /// from the call that waits for it.
+    pub fn new(hall: &UnixHall<R>, seconds: u32) -> Result<SleepTicker<R>, NoMemory>
+        ensures due { IfOk result (λ ticker. ⟦<SleepTicker<R> as Ticker>⟧.due ticker ≡ None) }
+        ensures faults { IfOk result (λ ticker.
+            ⟦<SleepTicker<R> as Ticker>⟧.tick_faults ticker ≡ 0) }
+    {
+        Ok(SleepTicker {
+            rt: hall.runtime(),
+            shared: hall.share()?,
+            seconds,
+            seen: Seen::nothing(),
+            faults: 0,
+        })
+    }
+}
+
+impl<R: rt::Clock + Wait + Copy + Send> Ticker for SleepTicker<R> {
+    ghost due = { λ _. None };
+
+    ghost tick_faults = { λ s. s.faults };
+
+    ghost is_over = { λ s. Idle s.seen };
+
+    fn next(&mut self) -> Tick {
+        let time = Duration::from_secs(u64::from(self.seconds));
+        let Ok(since) = Instant::now(&self.rt) else {
+            self.faults = self.faults.saturating_add(1);
+            return Tick::Failed;
+        };
+        self.seen = self.shared.wait(&self.rt, time);
+        if self.seen.is_idle() {
+            return Tick::Stop;
+        }
+        if since.elapsed(&self.rt).is_ok_and(|past| past >= time) {
+            return Tick::Due;
+        }
+        self.faults = self.faults.saturating_add(1);
+        Tick::Failed
+    }
+
+    ghost over_at_none = { λ _. tt };
+}
