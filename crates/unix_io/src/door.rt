@@ -15,11 +15,8 @@ use std::sync::{Arc, Wait};
 use std::time::Duration;
 use std::{io, rt};
 
-/// No descriptors in the whole system, by its number.
-const ENFILE: i32 = 23;
-
-/// No room for a socket, by its number.
-const ENOBUFS: i32 = 105;
+/// A socket cannot accept, by the number of that error.
+const EOPNOTSUPP: i32 = 95;
 
 /// How many milliseconds a door pauses where an accept failed for a cause that passes.
 const PAUSE: u64 = 100;
@@ -37,20 +34,13 @@ pub struct UnixDoor<R: rt::Files + Wait + Copy> {
     faults: u64,
 }
 
-/// An accept that failed so may succeed later, at the same socket: the peer is gone, the call was
-/// interrupted, or descriptors or memory of the system are used up for the moment.
-fn passes(error: &io::Error) -> bool {
+/// No accept at that socket succeeds any more. After any other failure the next one may: the peer
+/// is gone, the call was interrupted, or descriptors or memory of the system are used up for the
+/// moment.
+fn is_unusable(error: &io::Error) -> bool {
     matches!(
         error.raw_os_error(),
-        Some(
-            libc::EINTR
-                | libc::EAGAIN
-                | libc::ECONNABORTED
-                | libc::EMFILE
-                | libc::ENOMEM
-                | ENFILE
-                | ENOBUFS
-        )
+        Some(libc::EBADF | libc::EINVAL | libc::ENOTSOCK | EOPNOTSUPP)
     )
 }
 
@@ -104,7 +94,7 @@ impl<R: rt::Files + rt::Clock + Wait + Copy> UnixDoor<R> {
 
     /// Whether to accept again, after an accept that failed so. Where it is, a pause is over.
     fn goes_on(&self, error: &io::Error) -> bool {
-        if !passes(error) {
+        if is_unusable(error) {
             return false;
         }
         let pause = Duration::from_millis(PAUSE);

@@ -50,11 +50,26 @@ pub struct UnixHall<R> {
 impl<R: rt::Files + Net + rt::Clock + Wait + Copy + Send> UnixHall<R> {
     /// No doors, a lowered flag, and no connection.
     pub fn new(rt: R, alloc: Global) -> Result<UnixHall<R>, NoMemory>
-        ensures read_faults { IfOk result (λ hall. hall.read_faults ≡ 0) }
-        ensures ends { IfOk result (λ hall. hall.ends ≡ 0) }
-        ensures write_faults { IfOk result (λ hall. hall.write_faults ≡ 0) }
-        ensures dial_faults { IfOk result (λ hall. hall.dial_faults ≡ 0) }
-        ensures hall_faults { IfOk result (λ hall. hall.hall_faults ≡ 0) }
+        ensures left { IfOk result (λ hall.
+            ⟦<UnixHall<R> as Source>⟧.left hall ≡ None) }
+        ensures taken { IfOk result (λ hall.
+            ⟦<UnixHall<R> as Sink>⟧.taken hall ≡ None) }
+        ensures dialled { IfOk result (λ hall.
+            ⟦<UnixHall<R> as Wire>⟧.dialled hall ≡ None) }
+        ensures replies { IfOk result (λ hall.
+            ⟦<UnixHall<R> as Wire>⟧.replies hall ≡ None) }
+        ensures doors { IfOk result (λ hall.
+            ⟦<UnixHall<R> as Hall>⟧.doors hall ≡ None) }
+        ensures read_faults { IfOk result (λ hall.
+            ⟦<UnixHall<R> as Source>⟧.read_faults hall ≡ 0) }
+        ensures ends { IfOk result (λ hall.
+            ⟦<UnixHall<R> as Source>⟧.ends hall ≡ 0) }
+        ensures write_faults { IfOk result (λ hall.
+            ⟦<UnixHall<R> as Sink>⟧.write_faults hall ≡ 0) }
+        ensures dial_faults { IfOk result (λ hall.
+            ⟦<UnixHall<R> as Wire>⟧.dial_faults hall ≡ 0) }
+        ensures hall_faults { IfOk result (λ hall.
+            ⟦<UnixHall<R> as Hall>⟧.hall_faults hall ≡ 0) }
     {
         Ok(UnixHall {
             rt,
@@ -99,7 +114,10 @@ impl<R: Copy> UnixHall<R> {
 
     /// Who may connect at that path, where it was told.
     fn owner_of(&self, path: &str) -> Option<Owner> {
-        let named = self.owners.iter().find(|named| named.path.as_str() == path)?;
+        let named = self
+            .owners
+            .iter()
+            .find(|named| named.path.as_str() == path)?;
         Some(named.owner)
     }
 

@@ -9,7 +9,6 @@ mod clocks;
 mod door;
 mod hall;
 mod link;
-
 mod shared;
 mod socket_file;
 mod standing;

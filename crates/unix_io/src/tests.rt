@@ -12,9 +12,8 @@ use std::net::Net;
 use std::process::Abort;
 use std::sync::Wait;
 use std::test::Fail;
-use std::thread;
 use std::time::Duration;
-use std::{fs, io, rt};
+use std::{fs, io, rt, thread};
 
 /// An empty folder of that name, and a hall.
 fn start<R: rt::Files + Net + rt::Clock + Wait + Copy + Send>(

@@ -9,10 +9,11 @@ use crate::state::Seen;
 use byte_io::{Tick, Ticker};
 use munge_types::NoMemory;
 use std::alloc::Global;
+use std::io::ErrorKind;
 use std::net::Net;
-use std::rt;
 use std::sync::{Arc, Wait};
 use std::time::{Duration, Instant};
+use std::{io, rt};
 
 /// It is due after so many seconds, again and again. It stops at once where the stop flag of its
 /// hall goes up, and where every door that the hall opened is over or has failed. How often it will
@@ -44,6 +45,20 @@ impl<R: rt::Files + Net + rt::Clock + Wait + Copy + Send> SleepTicker<R> {
     }
 }
 
+impl<R: rt::Clock + Wait> SleepTicker<R> {
+    /// Waits until the time is over, or until nobody comes any more. It fails where the clock
+    /// cannot be read.
+    fn wait(&self) -> io::Result<Seen> {
+        let time = Duration::from_secs(u64::from(self.seconds));
+        let since = Instant::now(&self.rt)?;
+        let seen = self.shared.wait(&self.rt, time);
+        if !seen.is_idle() && since.elapsed(&self.rt)? < time {
+            return Err(io::Error::from(ErrorKind::Other));
+        }
+        Ok(seen)
+    }
+}
+
 impl<R: rt::Clock + Wait + Copy + Send> Ticker for SleepTicker<R> {
     ghost due = { λ _. None };
 
@@ -52,20 +67,20 @@ impl<R: rt::Clock + Wait + Copy + Send> Ticker for SleepTicker<R> {
     ghost is_over = { λ s. Idle s.seen };
 
     fn next(&mut self) -> Tick {
-        let time = Duration::from_secs(u64::from(self.seconds));
-        let Ok(since) = Instant::now(&self.rt) else {
-            self.faults = self.faults.saturating_add(1);
-            return Tick::Failed;
-        };
-        self.seen = self.shared.wait(&self.rt, time);
-        if self.seen.is_idle() {
-            return Tick::Stop;
+        match self.wait() {
+            Ok(seen) => {
+                self.seen = seen;
+                if seen.is_idle() {
+                    Tick::Stop
+                } else {
+                    Tick::Due
+                }
+            }
+            Err(_) => {
+                self.faults = self.faults.saturating_add(1);
+                Tick::Failed
+            }
         }
-        if since.elapsed(&self.rt).is_ok_and(|past| past >= time) {
-            return Tick::Due;
-        }
-        self.faults = self.faults.saturating_add(1);
-        Tick::Failed
     }
 
     ghost over_at_none = { λ _. tt };

@@ -22,8 +22,9 @@ fn frames_go_both_ways(rt: HostRuntime) -> Result<(), Fail> {
         assert_eq!(rt; into, *b"question");
         assert_eq!(rt; write_all(&mut link, b"answer"), AllWritten::All);
         drop(link);
+        let mut into = [0; 7];
         assert_eq!(rt; read_full(&mut client, &mut into), FullRead::Short(6));
-        assert_eq!(rt; into, *b"answeron");
+        assert_eq!(rt; into, *b"answer\0");
     }
     assert!(rt; client.dial("both_ways/none").is_err());
     drop(one);
@@ -59,7 +60,11 @@ fn a_ring_ends_accepts_that_wait(rt: HostRuntime) -> Result<(), Fail> {
     let mut door = open(&mut hall, rt.alloc(), "ring/one")?;
     let client = UnixStream::connect(&rt, "ring/one")?;
     let link = accept(&mut door)?;
-    thread::join(&rt, || assert_over(&rt, &mut door), || ring_later(&rt, link));
+    thread::join(
+        &rt,
+        || assert_over(&rt, &mut door),
+        || ring_later(&rt, link),
+    );
     drop(client);
     Ok(end(&rt, "ring")?)
 }

@@ -13,9 +13,11 @@ use std::time::{Clock, Duration, Instant};
 /// So many milliseconds went by, and no more than a few seconds.
 fn assert_waited<R: Clock + Abort>(rt: &R, since: Instant, least: u64) {
     let past = since.elapsed(rt);
-    assert!(rt; past.is_ok_and(|past| {
-        Duration::from_millis(least) <= past && past < Duration::from_secs(4)
-    }));
+    assert!(rt;
+        past.is_ok_and(|past| {
+            Duration::from_millis(least) <= past && past < Duration::from_secs(4)
+        })
+    );
 }
 
 #[test]

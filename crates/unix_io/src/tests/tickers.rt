@@ -5,11 +5,10 @@ use crate::{SleepTicker, SystemClocks, UnixDoor};
 use byte_io::{Clock, Clocks, Tick, Ticker};
 use std::os::unix::net::UnixStream;
 use std::process::Abort;
-use std::rt;
 use std::sync::Wait;
 use std::test::Fail;
-use std::thread;
 use std::time::{Duration, Instant};
+use std::{rt, thread};
 
 /// What the ticker answers next.
 fn assert_next<R: rt::Clock + Wait + Abort + Copy + Send>(
