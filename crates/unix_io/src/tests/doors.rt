@@ -1,11 +1,35 @@
 //! Doors: what they give, and how they end.
 
 use super::{accept, assert_over, end, open, ring_later, start};
-use crate::UnixHall;
+use crate::{UnixDoor, UnixHall};
 use byte_io::{AllWritten, FullRead, Link, Source, Wire, read_full, write_all};
+use std::net::Net;
 use std::os::unix::net::UnixStream;
+use std::process::Abort;
+use std::sync::Wait;
 use std::test::Fail;
-use std::thread;
+use std::{rt, thread};
+
+/// A client dials the door's path, asks, and has its answer.
+fn exchange<R: rt::Files + Net + rt::Clock + Wait + Abort + Copy + Send>(
+    rt: &R,
+    client: &mut UnixHall<R>,
+    door: &mut UnixDoor<R>,
+    path: &str,
+) -> Result<(), Fail> {
+    assert_eq!(rt; client.dial(path), Ok(()));
+    assert_eq!(rt; write_all(client, b"question"), AllWritten::All);
+    let mut link = accept(door)?;
+    let mut into = [0; 8];
+    assert_eq!(rt; read_full(&mut link, &mut into), FullRead::Full);
+    assert_eq!(rt; into, *b"question");
+    assert_eq!(rt; write_all(&mut link, b"answer"), AllWritten::All);
+    drop(link);
+    let mut into = [0; 7];
+    assert_eq!(rt; read_full(client, &mut into), FullRead::Short(6));
+    assert_eq!(rt; into, *b"answer\0");
+    Ok(())
+}
 
 #[test]
 fn frames_go_both_ways(rt: HostRuntime) -> Result<(), Fail> {
@@ -13,19 +37,8 @@ fn frames_go_both_ways(rt: HostRuntime) -> Result<(), Fail> {
     let mut one = open(&mut hall, rt.alloc(), "both_ways/one")?;
     let mut other = open(&mut hall, rt.alloc(), "both_ways/other")?;
     let mut client = UnixHall::new(rt, rt.alloc())?;
-    for (door, path) in [(&mut one, "both_ways/one"), (&mut other, "both_ways/other")] {
-        assert_eq!(rt; client.dial(path), Ok(()));
-        assert_eq!(rt; write_all(&mut client, b"question"), AllWritten::All);
-        let mut link = accept(door)?;
-        let mut into = [0; 8];
-        assert_eq!(rt; read_full(&mut link, &mut into), FullRead::Full);
-        assert_eq!(rt; into, *b"question");
-        assert_eq!(rt; write_all(&mut link, b"answer"), AllWritten::All);
-        drop(link);
-        let mut into = [0; 7];
-        assert_eq!(rt; read_full(&mut client, &mut into), FullRead::Short(6));
-        assert_eq!(rt; into, *b"answer\0");
-    }
+    exchange(&rt, &mut client, &mut one, "both_ways/one")?;
+    exchange(&rt, &mut client, &mut other, "both_ways/other")?;
     assert!(rt; client.dial("both_ways/none").is_err());
     drop(one);
     drop(other);
