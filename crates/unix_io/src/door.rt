@@ -4,9 +4,9 @@ ghost use Rattle.std.specs.Prelude.{◌≡◌, None, IfSome, IfOk};
 ghost use Rattle.unix_io.specs.Idle.{Stopped};
 
 use crate::link::UnixLink;
+use crate::listening_socket::ListeningSocket;
 use crate::shared::Shared;
 use crate::socket_file::Owner;
-use crate::standing::Standing;
 use crate::state::Seen;
 use byte_io::{Door, Next};
 use std::alloc::Global;
@@ -28,7 +28,7 @@ pub struct UnixDoor<R: rt::Files + Wait + Copy> {
     rt: R,
     shared: Arc<Shared, Global>,
     // None once it is over, or has failed.
-    standing: Option<Standing<R>>,
+    socket: Option<ListeningSocket<R>>,
     time: Duration,
     seen: Seen,
     faults: u64,
@@ -58,11 +58,11 @@ impl<R: rt::Files + Net + rt::Clock + Wait + Copy> UnixDoor<R> {
         ensures { IfOk result (λ door. door.faults ≡ 0) }
     {
         let mine = Arc::try_clone(shared)?;
-        let standing = Standing::open(rt, alloc, Arc::try_clone(shared)?, path, owner)?;
+        let socket = ListeningSocket::open(rt, alloc, Arc::try_clone(shared)?, path, owner)?;
         Ok(UnixDoor {
             rt,
             shared: mine,
-            standing: Some(standing),
+            socket: Some(socket),
             time,
             seen: Seen::nothing(),
             faults: 0,
@@ -76,9 +76,9 @@ impl<R: rt::Files + rt::Clock + Wait + Copy> UnixDoor<R> {
         ensures read_faults { IfSome result (λ link. link.read_faults ≡ 0) }
         ensures write_faults { IfSome result (λ link. link.write_faults ≡ 0) }
     {
-        let standing = self.standing.as_ref()?;
+        let socket = self.socket.as_ref()?;
         for _ in self.rt.forever() {
-            match standing.accept() {
+            match socket.accept() {
                 Ok(stream) => {
                     return UnixLink::new(self.rt, &self.shared, stream, self.time).ok();
                 }
@@ -115,7 +115,7 @@ impl<R: rt::Files + rt::Clock + Wait + Copy + Send> Door for UnixDoor<R> {
         if let Some(link) = self.wait_for_link() {
             return Next::Conn(link);
         }
-        self.standing = None;
+        self.socket = None;
         self.seen = self.shared.look(&self.rt);
         if self.seen.is_stopped() {
             return Next::Over;

@@ -9,9 +9,9 @@ mod clocks;
 mod door;
 mod hall;
 mod link;
+mod listening_socket;
 mod shared;
 mod socket_file;
-mod standing;
 mod state;
 #[cfg(test)]
 mod tests;

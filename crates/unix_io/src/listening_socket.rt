@@ -11,7 +11,7 @@ use std::rt;
 use std::sync::{Arc, Wait};
 
 /// A socket that takes connections, as one of the open doors. With it its file goes.
-pub struct Standing<R: rt::Files + Wait + Copy> {
+pub struct ListeningSocket<R: rt::Files + Wait + Copy> {
     rt: R,
     shared: Arc<Shared, Global>,
     number: u64,
@@ -19,7 +19,7 @@ pub struct Standing<R: rt::Files + Wait + Copy> {
     listener: UnixListener,
 }
 
-impl<R: rt::Files + Net + Wait + Copy> Standing<R> {
+impl<R: rt::Files + Net + Wait + Copy> ListeningSocket<R> {
     /// A socket at that path, for that owner, as one door more of those that share.
     pub fn open(
         rt: R,
@@ -27,13 +27,13 @@ impl<R: rt::Files + Net + Wait + Copy> Standing<R> {
         shared: Arc<Shared, Global>,
         path: &str,
         owner: Option<Owner>,
-    ) -> io::Result<Standing<R>> {
+    ) -> io::Result<ListeningSocket<R>> {
         let (listener, file) = listen(rt, alloc, path, owner)?;
         let handle = UnixStream::from(OwnedFd::from(listener.try_clone()?));
         let Ok(number) = shared.add(&rt, handle) else {
             return Err(io::Error::from(ErrorKind::OutOfMemory));
         };
-        Ok(Standing {
+        Ok(ListeningSocket {
             rt,
             shared,
             number,
@@ -43,7 +43,7 @@ impl<R: rt::Files + Net + Wait + Copy> Standing<R> {
     }
 }
 
-impl<R: rt::Files + Wait + Copy> Standing<R> {
+impl<R: rt::Files + Wait + Copy> ListeningSocket<R> {
     /// Waits for the next connection. It fails where the stop flag goes up, once no connection
     /// waits any more.
     pub fn accept(&self) -> io::Result<UnixStream> {
@@ -52,11 +52,11 @@ impl<R: rt::Files + Wait + Copy> Standing<R> {
     }
 }
 
-impl<R: rt::Files + Wait + Copy> Drop for Standing<R> {
+impl<R: rt::Files + Wait + Copy> Drop for ListeningSocket<R> {
     // The file goes while the socket is open, since until then no other file has its numbers.
     fn drop(self) {
         self.shared.remove(&self.rt, self.number);
-        let Standing {
+        let ListeningSocket {
             rt: _,
             shared: _,
             number: _,
