@@ -1,0 +1,6 @@
+pub mod CommandLemmas
+pub mod EndingLemmas
+pub mod ExchangeLemmas
+pub mod NumberLemmas
+pub mod OutputLemmas
+pub mod ReplyLemmas

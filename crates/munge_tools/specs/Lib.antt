@@ -1,0 +1,15 @@
+pub mod Ending
+pub mod Exchange
+pub mod Fitting
+pub mod InputRead
+pub mod Line
+pub mod Munge
+pub mod MungeAskedTold
+pub mod MungeWords
+pub mod Output
+pub mod Printed
+pub mod ReplyRead
+pub mod Status
+pub mod Unheard
+pub mod Wire
+pub mod Words

@@ -1,0 +1,19 @@
+//! What the client programs do: munge asks the daemon to seal what it is given, unmunge asks it to
+//! open a credential and prints what that says, and remunge makes many credentials and counts.
+#![tactic(auto)]
+
+mod ending;
+mod exchange;
+mod fitting;
+mod input;
+mod line;
+mod munge;
+mod munge_words;
+mod output;
+mod printing;
+mod replies;
+mod reply;
+mod words;
+
+pub use munge::munge_run;
+pub use printing::printed;
