@@ -148,7 +148,7 @@ not_heard_of_any Fits path frame a e why (unheld bytes leads dialled is) = unhel
 -- ---- a reply that does not fit
 
 -- two lists that go on to the same: one goes on to the other
-both_fronts : (a b c d : List ℕ) → a ++ b ≡ c ++ d → ((x : List ℕ) × (c ≡ a ++ x)) ⊎ ((x : List ℕ) × (a ≡ c ++ x))
+pub both_fronts : (a b c d : List ℕ) → a ++ b ≡ c ++ d → ((x : List ℕ) × (c ≡ a ++ x)) ⊎ ((x : List ℕ) × (a ≡ c ++ x))
 both_fronts [] b c d same = inl (c, refl)
 both_fronts (x ∷ a) b [] d same = inr (x ∷ a, refl)
 both_fronts (x ∷ a) b (y ∷ c) d same =

@@ -1,4 +1,5 @@
 pub mod CommandLemmas
+pub mod Completeness
 pub mod EndingLemmas
 pub mod ExchangeLemmas
 pub mod NumberLemmas

@@ -1,3 +1,4 @@
+pub mod Able
 pub mod Ending
 pub mod Exchange
 pub mod Fitting
@@ -10,6 +11,10 @@ pub mod Output
 pub mod Printed
 pub mod ReplyRead
 pub mod Status
+pub mod Things
 pub mod Unheard
+pub mod Unmunge
+pub mod UnmungeAskedTold
+pub mod UnmungeWords
 pub mod Wire
 pub mod Words

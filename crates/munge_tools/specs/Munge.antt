@@ -14,8 +14,8 @@ use Rattle.munge_tools.specs.MungeWords.{AskedMunge, Payload, munge_asked}
 use Rattle.munge_tools.specs.MungeWords as payload
 use Rattle.munge_tools.specs.Output.{TakesCut}
 use Rattle.munge_tools.specs.ReplyRead.{Input}
+use Rattle.munge_tools.specs.Things.{Same, Things}
 use Rattle.munge_tools.specs.Unheard.{ending_of}
-use Rattle.munge_tools.specs.Wire.{WireSeen}
 use Rattle.munge_tools.specs.declared.ending.Ending.{Ending}
 use Rattle.munge_tools.specs.declared.ending.Ending.TheVariants.{Done, Refused, TooLong, BadWords, Unreached, BadReply, InputFailed, OutputFailed, NoMemory}
 use Rattle.munge_tools.specs.declared.exchange.Unheard.{Unheard}
@@ -75,24 +75,6 @@ TextRefused given Unreached = ⊥
 TextRefused given BadReply = ⊥
 TextRefused given InputFailed = ⊥
 TextRefused given OutputFailed = ⊥
-
--- what munge works on: its input, what its output took where that is told, and its wire
-pub record Things : Type 0 where
-  pub input : Input
-  pub taken : Option (List ℕ)
-  pub wire : WireSeen
-
-abbrev pub things_of : Input → (taken : Option (List ℕ)) → WireSeen → Things
-things_of input taken wire = record { input = input; taken = taken; wire = wire }
-
--- what of these is as it was
-pub record Same : Type 1 where
-  pub input : Type 0
-  pub out : Type 0
-  pub wire : Type 0
-
-abbrev pub same_of : (input out wire : Type 0) → Same
-same_of input out wire = record { input = input; out = out; wire = wire }
 
 -- the line of a credential
 abbrev pub text_line : (text : List ℕ) → List ℕ

@@ -2,6 +2,7 @@
 
 ghost use Rattle.std.specs.Prelude.{◌≡◌, ◌≢◌, ◌≤◌, ◌<◌, ◌+◌, ◌^◌, Err, IfErr, IfOk, vec_len};
 ghost use Rattle.byte_io.specs.Counts.{Rose};
+ghost use Rattle.munge_tools.specs.Ending.{IsBeforeDial};
 ghost use Rattle.munge_tools.specs.InputRead.{IsWholeInput, NoInput};
 ghost use Rattle.munge_tools.specs.ReplyRead.{input_of};
 
@@ -23,6 +24,7 @@ pub fn read_input<I: Source>(
     ensures none { IfErr result (NoInput limit (input.new ≡ input.old)
         (input_of (I.left input.old) (I.ends input.old))
         (input_of (I.left input.new) (I.ends input.new))) }
+    ensures own { IfErr result IsBeforeDial }
     ensures fault { result ≡ Err Ending.InputFailed
         → Rose (I.read_faults input.old) (I.read_faults input.new) }
     ensures sound { result ≢ Err Ending.InputFailed

@@ -1,8 +1,10 @@
 //! munge.
 
-ghost use Rattle.std.specs.Prelude.{◌≡◌, ◌≢◌, ◌≤◌, Err, IfErr, IfOk, codes, length, map};
+ghost use Rattle.std.specs.Prelude.{◌≡◌, ◌≢◌, ◌≤◌, ◌⊎◌, Err, IfErr, IfOk, codes, length, map};
 ghost use Rattle.std.specs.String.{string_bytes};
+ghost use Rattle.std.specs.Io.KnownBytes.{Appends};
 ghost use Rattle.byte_io.specs.Counts.{Rose};
+ghost use Rattle.munge_tools.specs.Able.{CanSeal};
 ghost use Rattle.munge_tools.specs.Ending.{Ended, IsAfterReply, IsBeforeDial, IsOfReply, Says, errors_of};
 ghost use Rattle.munge_tools.specs.Fitting.{FitsEncodeSaid};
 ghost use Rattle.munge_tools.specs.Munge.{
@@ -13,12 +15,12 @@ ghost use Rattle.munge_tools.specs.Munge.{
   NoPayload,
   TextRefused,
   payload_limit,
-  same_of,
-  things_of,
+  text_line,
 };
 ghost use Rattle.munge_tools.specs.MungeAskedTold.{munge_told, payload_told};
 ghost use Rattle.munge_tools.specs.ReplyRead.{input_of};
-ghost use Rattle.munge_tools.specs.Status.{failed_input, failed_output, unreached};
+ghost use Rattle.munge_tools.specs.Status.{failed_input, failed_output, unreached, want_of_memory};
+ghost use Rattle.munge_tools.specs.Things.{same_of, things_of};
 ghost use Rattle.munge_tools.specs.Wire.{WireFailed, WireSound, seen_by};
 
 use crate::ending::{Ending, end};
@@ -30,6 +32,7 @@ use crate::words::Unread;
 use byte_io::{Sink, Source, Wire};
 use munge_types::Failed;
 use std::alloc::Global;
+use wire_msg::laws::{frame_has_one_message, no_frame_goes_on_to_another};
 use wire_msg::{Bytes, EncodeAsk, EncodeSaid};
 
 /// The most bytes of a payload.
@@ -71,7 +74,23 @@ pub fn munge_run<I: Source, O: Sink, E: Sink, W: Wire>(
         → I.read_faults input.new ≡ I.read_faults input.old }
     ensures writes_sound { result ≢ failed_output
         → O.write_faults out.new ≡ O.write_faults out.old }
+
+    // Nothing else than want of memory keeps it from what a fitting reply says.
+    ensures complete { let seen = seen_by W.dialled W.replies W.left W.taken W.ends
+        W.dial_faults W.read_faults W.write_faults in
+        let before = things_of (input_of (I.left input.old) (I.ends input.old))
+        (O.taken out.old) (seen wire.old) in
+        let after = things_of (input_of (I.left input.new) (I.ends input.new))
+        (O.taken out.new) (seen wire.new) in
+        (can : CanSeal (map string_bytes words.now) before)
+        → ¬ WireFailed before.wire after.wire
+        → ¬ Rose (I.read_faults input.old) (I.read_faults input.new)
+        → ¬ Rose (O.write_faults out.old) (O.write_faults out.new)
+        → (result ≡ want_of_memory) ⊎ ((result ≡ can.said.status)
+        × (can.said.status ≡ 0 → Appends before.taken after.taken (text_line can.said.text))) }
 {
+    frame_has_one_message();
+    no_frame_goes_on_to_another();
     let ending = run(alloc, words, input, out, wire);
     end("munge", err, ending)
 }
