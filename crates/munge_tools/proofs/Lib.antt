@@ -5,3 +5,4 @@ pub mod ExchangeLemmas
 pub mod NumberLemmas
 pub mod OutputLemmas
 pub mod ReplyLemmas
+pub mod RoundLemmas

@@ -9,9 +9,14 @@ pub mod MungeAskedTold
 pub mod MungeWords
 pub mod Output
 pub mod Printed
+pub mod Remunge
+pub mod RemungeAskedTold
+pub mod RemungeWords
 pub mod ReplyRead
+pub mod Rounds
 pub mod Status
 pub mod Things
+pub mod TotalsLine
 pub mod Unheard
 pub mod Unmunge
 pub mod UnmungeAskedTold

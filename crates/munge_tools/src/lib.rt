@@ -1,5 +1,5 @@
-//! What the client programs do: munge asks the daemon to seal what it is given, and unmunge asks it
-//! to open a credential and prints what that says.
+//! What the client programs do: munge asks the daemon to seal what it is given, unmunge asks it to
+//! open a credential and prints what that says, and remunge has many credentials made and counts.
 #![tactic(auto)]
 
 mod ending;
@@ -11,12 +11,19 @@ mod munge;
 mod munge_words;
 mod output;
 mod printing;
+mod remunge;
+mod remunge_words;
 mod replies;
 mod reply;
+mod rounds;
+#[cfg(test)]
+mod tests;
+mod totals;
 mod unmunge;
 mod unmunge_words;
 mod words;
 
 pub use munge::munge_run;
 pub use printing::printed;
+pub use remunge::remunge_run;
 pub use unmunge::unmunge_run;

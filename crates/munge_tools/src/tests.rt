@@ -1,0 +1,7 @@
+//! Runs of the tools over the outside in memory.
+
+mod fixture;
+mod munge;
+mod printing;
+mod remunge;
+mod unmunge;
