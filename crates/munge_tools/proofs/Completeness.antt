@@ -82,14 +82,14 @@ never_bad Fits path written read a e message given bad dialled =
     ]
 
 -- what is heard is that reply
-heard_it : FrameLaws → (Fits : Message → Type 0) (path frame : List ℕ) (a e : WireSeen) (message heard : Message) → GivesReply Fits a message
+pub heard_it : FrameLaws → (Fits : Message → Type 0) (path frame : List ℕ) (a e : WireSeen) (message heard : Message) → GivesReply Fits a message
     → Heard path frame a e heard → heard ≡ message
 heard_it laws Fits path frame a e message heard given came =
     let left = behind_dial Fits path frame (frame_of heard) a e message given came.dialled in
     same_message laws heard message left.rest given.rest came.is_message given.is_message (sym left.joined)
 
 -- where no reply is heard, that is for a fault or want of memory
-unheard_why : (Fits : Message → Type 0) (path frame : List ℕ) (a e : WireSeen) (message : Message) (why : Unheard) → GivesReply Fits a message
+pub unheard_why : (Fits : Message → Type 0) (path frame : List ℕ) (a e : WireSeen) (message : Message) (why : Unheard) → GivesReply Fits a message
     → NotHeard Fits path frame a e why → (ending_of why ≡ ending.NoMemory) ⊎ (ending_of why ≡ ending.Unreached)
 unheard_why Fits path frame a e message why given (unmade same is) = inl (ap ending_of is)
 unheard_why Fits path frame a e message why given (undialled same is) = inr (ap ending_of is)

@@ -4,5 +4,6 @@ pub mod EndingLemmas
 pub mod ExchangeLemmas
 pub mod NumberLemmas
 pub mod OutputLemmas
+pub mod RemungeCompleteness
 pub mod ReplyLemmas
 pub mod RoundLemmas

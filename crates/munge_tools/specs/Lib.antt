@@ -10,6 +10,7 @@ pub mod MungeWords
 pub mod Output
 pub mod Printed
 pub mod Remunge
+pub mod RemungeAble
 pub mod RemungeAskedTold
 pub mod RemungeWords
 pub mod ReplyRead

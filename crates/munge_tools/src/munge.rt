@@ -36,7 +36,7 @@ use wire_msg::laws::{frame_has_one_message, no_frame_goes_on_to_another};
 use wire_msg::{Bytes, EncodeAsk, EncodeSaid};
 
 /// The most bytes of a payload.
-const PAYLOAD_LIMIT: u32 = 1_048_576;
+pub(crate) const PAYLOAD_LIMIT: u32 = 1_048_576;
 
 /// Does what the words of munge ask for, which do not hold the program's name, and returns the
 /// status of the process. Where that is not 0, one line on `err` says why.

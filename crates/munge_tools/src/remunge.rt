@@ -1,15 +1,17 @@
 //! remunge.
 
-ghost use Rattle.std.specs.Prelude.{◌≡◌, ◌≢◌, codes, map};
+ghost use Rattle.std.specs.Prelude.{◌≡◌, ◌≢◌, ◌⊎◌, codes, map};
 ghost use Rattle.std.specs.String.{string_bytes};
 ghost use Rattle.byte_io.specs.Counts.{Rose};
 ghost use Rattle.munge_tools.specs.Ending.{Ended, IsAfterReply, IsOfReply, Says, errors_of};
 ghost use Rattle.munge_tools.specs.Remunge.{EndsBy, MakingCame, RemungeCame, Told};
+ghost use Rattle.munge_tools.specs.RemungeAble.{CanRun, TotalsPrinted};
 ghost use Rattle.munge_tools.specs.RemungeAskedTold.{remunge_told};
-ghost use Rattle.munge_tools.specs.Status.{failed_output, unreached};
+ghost use Rattle.munge_tools.specs.Status.{failed_output, unreached, want_of_memory};
 ghost use Rattle.munge_tools.specs.Wire.{WireFailed, WireSound, seen_by};
 
 use crate::ending::{Ending, end};
+use crate::munge::PAYLOAD_LIMIT;
 use crate::output::print;
 use crate::remunge_words::{AskedRemunge, remunge_words};
 use crate::rounds::run_rounds;
@@ -18,9 +20,7 @@ use crate::words::Unread;
 use byte_io::{Sink, Wire};
 use munge_types::{Failed, NoMemory};
 use std::alloc::Global;
-
-/// The most bytes of a payload.
-const PAYLOAD_LIMIT: usize = 1_048_576;
+use wire_msg::laws::{frame_has_one_message, no_frame_goes_on_to_another};
 
 /// Does what the words of remunge ask for, which do not hold the program's name: it has
 /// credentials made, and opened where that is asked for, and prints how many were. It returns the
@@ -51,7 +51,19 @@ pub fn remunge_run<O: Sink, E: Sink, W: Wire>(
         result ≢ unreached → WireSound (seen wire.old) (seen wire.new) }
     ensures writes_sound { result ≢ failed_output
         → O.write_faults out.new ≡ O.write_faults out.old }
+
+    // Nothing else than want of memory keeps it from its totals.
+    ensures complete { let seen = seen_by W.dialled W.replies W.left W.taken W.ends
+        W.dial_faults W.read_faults W.write_faults in
+        (can : CanRun (map string_bytes words.now) (seen wire.old))
+        → ¬ WireFailed (seen wire.old) (seen wire.new)
+        → ¬ Rose (O.write_faults out.old) (O.write_faults out.new)
+        → (result ≡ want_of_memory)
+        ⊎ TotalsPrinted can.asked (O.taken out.old) (O.taken out.new)
+        (seen wire.old) (seen wire.new) result }
 {
+    frame_has_one_message();
+    no_frame_goes_on_to_another();
     let ending = run(alloc, words, out, wire);
     end("remunge", err, ending)
 }
@@ -106,7 +118,7 @@ fn make_all<O: Sink, W: Wire>(
     ensures writes_sound { result ≢ Ending.OutputFailed
         → O.write_faults out.new ≡ O.write_faults out.old }
 {
-    if asked.payload.len() > PAYLOAD_LIMIT {
+    if asked.payload.len() > PAYLOAD_LIMIT as usize {
         return Ending::TooLong;
     }
     match run_rounds(alloc, wire, asked) {

@@ -66,11 +66,12 @@ fn each_option_is_sent(rt: HostRuntime) -> Result<(), Fail> {
         let mut run = Run::new(alloc, Tool::Munge, words)?;
         run.input.extend_from_slice(b"input")?;
         run.reply(&reply(alloc, 11, b"")?)?;
+        let sent = request(alloc, fields, payload)?;
         let wanted = Wanted {
             status: 11,
             out: b"",
             err: "munge: status 11\n",
-            sent: &request(alloc, fields, payload)?,
+            sent: &sent,
         };
         run.assert_ends(&rt, wanted)?;
     }

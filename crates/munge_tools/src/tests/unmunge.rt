@@ -73,6 +73,7 @@ fn replies_and_what_is_printed(rt: HostRuntime) -> Result<(), Fail> {
             "",
         ),
     ];
+    let sent = request(alloc, TEXT)?;
     for (words, reply, status, out, err) in rows {
         let mut run = Run::new(alloc, Tool::Unmunge, words)?;
         run.input.extend_from_slice(TEXT)?;
@@ -81,7 +82,7 @@ fn replies_and_what_is_printed(rt: HostRuntime) -> Result<(), Fail> {
             status,
             out,
             err,
-            sent: &request(alloc, TEXT)?,
+            sent: &sent,
         };
         run.assert_ends(&rt, wanted)?;
     }
