@@ -182,8 +182,7 @@ adds_some asked a b totals totals' adds =
     let e = adds.adds.encoded in
     let d = adds.adds.decoded in
     let f = adds.adds.failed in
-    let one : (t : Bool) → one_if t ≤ 1 = at_most_one in
-    (
+    let one : (t : Bool) → one_if t ≤ 1 = at_most_one in (
       omega (arith, e, one (is_made adds.round)),
       omega (arith, d, one (is_opened adds.round)),
       omega (arith, f, one (is_unmade adds.round), one (is_unopened adds.round)),

@@ -8,6 +8,7 @@ pub mod Munge
 pub mod MungeAskedTold
 pub mod MungeWords
 pub mod Output
+pub mod PayloadLast
 pub mod Printed
 pub mod Remunge
 pub mod RemungeAble

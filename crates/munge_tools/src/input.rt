@@ -12,11 +12,7 @@ use std::alloc::Global;
 
 /// Reads the input to its end, if no more bytes than the limit come. It reads one byte more at
 /// most.
-pub fn read_input<I: Source>(
-    alloc: Global,
-    input: &mut I,
-    limit: u32,
-) -> Result<Vec<u8>, Ending>
+pub fn read_input<I: Source>(alloc: Global, input: &mut I, limit: u32) -> Result<Vec<u8>, Ending>
     ensures within { IfOk result (λ bytes. vec_len bytes ≤ limit) }
     ensures whole { IfOk result (λ bytes. IsWholeInput
         (input_of (I.left input.old) (I.ends input.old))

@@ -6,6 +6,7 @@ mod ending;
 mod exchange;
 mod fitting;
 mod input;
+pub mod laws;
 mod line;
 mod munge;
 mod munge_words;

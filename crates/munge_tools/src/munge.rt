@@ -187,11 +187,7 @@ fn seal<I: Source, O: Sink, W: Wire>(
 }
 
 /// What is to be sealed, or how munge ends where that is too long or not to be had.
-fn payload_of<I: Source>(
-    alloc: Global,
-    asked: Payload<'_>,
-    input: &mut I,
-) -> Result<Bytes, Ending>
+fn payload_of<I: Source>(alloc: Global, asked: Payload<'_>, input: &mut I) -> Result<Bytes, Ending>
     ensures within { IfOk result (λ bytes. length bytes ≤ payload_limit) }
     ensures payload { IfOk result (λ bytes. IsPayload (payload_told asked.entry)
         (input.new ≡ input.old)

@@ -107,9 +107,11 @@ fn count_opened(totals: &mut Totals, status: u8)
     requires decoded { totals.old.decoded < 2 ^ 41 }
     requires failed { totals.old.failed < 2 ^ 41 }
     ensures opened { status ≡ 0 → totals.new ≡ record totals.old {
-        decoded = totals.old.decoded + 1 } }
+      decoded = totals.old.decoded + 1;
+    } }
     ensures unopened { status ≢ 0 → totals.new ≡ record totals.old {
-        failed = totals.old.failed + 1 } }
+      failed = totals.old.failed + 1;
+    } }
 {
     if status == 0 {
         totals.decoded += 1;

@@ -11,9 +11,7 @@ ghost use Rattle.munge_tools.specs.UnmungeWords.{
   unmunge_rows,
 };
 
-use crate::words::{
-    Unread, bare_command, given_socket, is_given, unread_of, with_flag, with_text,
-};
+use crate::words::{Unread, bare_command, given_socket, is_given, unread_of, with_flag, with_text};
 use clap::{ArgMatches, Command};
 use std::alloc::{AllocError, Global};
 

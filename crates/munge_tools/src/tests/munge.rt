@@ -52,15 +52,51 @@ fn each_option_is_sent(rt: HostRuntime) -> Result<(), Fail> {
         ("-shi", any, b"hi"),
         ("--string=", any, b""),
         ("--string\nhi", any, b"hi"),
-        ("-c\nnone", b"\x00\x01\x00\x00\x00\x00\xff\xff\xff\xff\xff\xff\xff\xff", b"input"),
-        ("--cipher=aes128", b"\x04\x01\x00\x00\x00\x00\xff\xff\xff\xff\xff\xff\xff\xff", b"input"),
-        ("-caes256", b"\x05\x01\x00\x00\x00\x00\xff\xff\xff\xff\xff\xff\xff\xff", b"input"),
-        ("-m\nsha1", b"\x01\x03\x00\x00\x00\x00\xff\xff\xff\xff\xff\xff\xff\xff", b"input"),
-        ("--mac=sha256", b"\x01\x05\x00\x00\x00\x00\xff\xff\xff\xff\xff\xff\xff\xff", b"input"),
-        ("-msha512\n-cdefault", b"\x01\x06\x00\x00\x00\x00\xff\xff\xff\xff\xff\xff\xff\xff", b"input"),
-        ("-u\n7\n-mdefault", b"\x01\x01\x00\x00\x00\x00\x00\x00\x00\x07\xff\xff\xff\xff", b"input"),
-        ("-g\n0", b"\x01\x01\x00\x00\x00\x00\xff\xff\xff\xff\x00\x00\x00\x00", b"input"),
-        ("-t\n04294967295", b"\x01\x01\xff\xff\xff\xff\xff\xff\xff\xff\xff\xff\xff\xff", b"input"),
+        (
+            "-c\nnone",
+            b"\x00\x01\x00\x00\x00\x00\xff\xff\xff\xff\xff\xff\xff\xff",
+            b"input",
+        ),
+        (
+            "--cipher=aes128",
+            b"\x04\x01\x00\x00\x00\x00\xff\xff\xff\xff\xff\xff\xff\xff",
+            b"input",
+        ),
+        (
+            "-caes256",
+            b"\x05\x01\x00\x00\x00\x00\xff\xff\xff\xff\xff\xff\xff\xff",
+            b"input",
+        ),
+        (
+            "-m\nsha1",
+            b"\x01\x03\x00\x00\x00\x00\xff\xff\xff\xff\xff\xff\xff\xff",
+            b"input",
+        ),
+        (
+            "--mac=sha256",
+            b"\x01\x05\x00\x00\x00\x00\xff\xff\xff\xff\xff\xff\xff\xff",
+            b"input",
+        ),
+        (
+            "-msha512\n-cdefault",
+            b"\x01\x06\x00\x00\x00\x00\xff\xff\xff\xff\xff\xff\xff\xff",
+            b"input",
+        ),
+        (
+            "-u\n7\n-mdefault",
+            b"\x01\x01\x00\x00\x00\x00\x00\x00\x00\x07\xff\xff\xff\xff",
+            b"input",
+        ),
+        (
+            "-g\n0",
+            b"\x01\x01\x00\x00\x00\x00\xff\xff\xff\xff\x00\x00\x00\x00",
+            b"input",
+        ),
+        (
+            "-t\n04294967295",
+            b"\x01\x01\xff\xff\xff\xff\xff\xff\xff\xff\xff\xff\xff\xff",
+            b"input",
+        ),
     ];
     for (words, fields, payload) in rows {
         let mut run = Run::new(alloc, Tool::Munge, words)?;
@@ -113,17 +149,62 @@ fn refused_words(rt: HostRuntime) -> Result<(), Fail> {
 fn replies_and_their_statuses(rt: HostRuntime) -> Result<(), Fail> {
     let rows: [(&[u8], u8, &[u8], &str); 12] = [
         (b"\x4d\x01\x02\x00\x00\x00\x02\x00M", 0, b"M\n", ""),
-        (b"\x4d\x01\x02\x00\x00\x00\x01\x02", 2, b"", "munge: status 2\n"),
-        (b"\x4d\x01\x02\x00\x00\x00\x01\x03", 3, b"", "munge: status 3\n"),
-        (b"\x4d\x01\x02\x00\x00\x00\x01\x0a", 10, b"", "munge: status 10\n"),
-        (b"\x4d\x01\x02\x00\x00\x00\x01\x0b", 11, b"", "munge: status 11\n"),
-        (b"\x4d\x01\x02\x00\x00\x00\x01\x01", 102, b"", "munge: bad reply\n"),
-        (b"\x4d\x01\x02\x00\x00\x00\x01\x0c", 102, b"", "munge: bad reply\n"),
+        (
+            b"\x4d\x01\x02\x00\x00\x00\x01\x02",
+            2,
+            b"",
+            "munge: status 2\n",
+        ),
+        (
+            b"\x4d\x01\x02\x00\x00\x00\x01\x03",
+            3,
+            b"",
+            "munge: status 3\n",
+        ),
+        (
+            b"\x4d\x01\x02\x00\x00\x00\x01\x0a",
+            10,
+            b"",
+            "munge: status 10\n",
+        ),
+        (
+            b"\x4d\x01\x02\x00\x00\x00\x01\x0b",
+            11,
+            b"",
+            "munge: status 11\n",
+        ),
+        (
+            b"\x4d\x01\x02\x00\x00\x00\x01\x01",
+            102,
+            b"",
+            "munge: bad reply\n",
+        ),
+        (
+            b"\x4d\x01\x02\x00\x00\x00\x01\x0c",
+            102,
+            b"",
+            "munge: bad reply\n",
+        ),
         (b"", 102, b"", "munge: bad reply\n"),
-        (b"\x4d\x01\x02\x00\x00\x00\x02\x00", 102, b"", "munge: bad reply\n"),
+        (
+            b"\x4d\x01\x02\x00\x00\x00\x02\x00",
+            102,
+            b"",
+            "munge: bad reply\n",
+        ),
         (b"\x4e", 102, b"", "munge: bad reply\n"),
-        (b"\x4d\x01\x06\x00\x00\x00\x01\x00", 102, b"", "munge: bad reply\n"),
-        (b"\x4d\x01\x02\x00\x00\x00\x01\x02more", 2, b"", "munge: status 2\n"),
+        (
+            b"\x4d\x01\x06\x00\x00\x00\x01\x00",
+            102,
+            b"",
+            "munge: bad reply\n",
+        ),
+        (
+            b"\x4d\x01\x02\x00\x00\x00\x01\x02more",
+            2,
+            b"",
+            "munge: status 2\n",
+        ),
     ];
     for (bytes, status, out, err) in rows {
         let mut run = Run::new(rt.alloc(), Tool::Munge, "-n")?;

@@ -13,7 +13,8 @@ const UNMADE: &[u8] = b"\x4d\x01\x02\x00\x00\x00\x01\x02";
 const UNAUTHORIZED: &[u8] = b"\x4d\x01\x04\x00\x00\x00\x0a\x12\x0a\xff\xff\xff\xff\xff\xff\xff\xff";
 
 /// The encode request for nothing.
-const MAKE: &[u8] = b"\x4d\x01\x01\x00\x00\x00\x0e\x01\x01\x00\x00\x00\x00\xff\xff\xff\xff\xff\xff\xff\xff";
+const MAKE: &[u8] =
+    b"\x4d\x01\x01\x00\x00\x00\x0e\x01\x01\x00\x00\x00\x00\xff\xff\xff\xff\xff\xff\xff\xff";
 
 /// The decode request for the text `T`.
 const OPEN: &[u8] = b"\x4d\x01\x03\x00\x00\x00\x01T";
@@ -22,7 +23,14 @@ const OPEN: &[u8] = b"\x4d\x01\x03\x00\x00\x00\x01T";
 fn totals_of_replies(rt: HostRuntime) -> Result<(), Fail> {
     let alloc = rt.alloc();
     let rows: [(&str, [&[u8]; 4], u8, &str, &str, [&[u8]; 4]); 9] = [
-        ("", [MADE, b"", b"", b""], 0, "encoded 1 decoded 0 failed 0\n", "", [MAKE, b"", b"", b""]),
+        (
+            "",
+            [MADE, b"", b"", b""],
+            0,
+            "encoded 1 decoded 0 failed 0\n",
+            "",
+            [MAKE, b"", b"", b""],
+        ),
         (
             "-N\n2",
             [MADE, MADE, b"", b""],
@@ -71,8 +79,22 @@ fn totals_of_replies(rt: HostRuntime) -> Result<(), Fail> {
             "remunge: bad reply\n",
             [MAKE, OPEN, b"", b""],
         ),
-        ("-N0", [b"", b"", b"", b""], 100, "", "remunge: bad words\n", [b"", b"", b"", b""]),
-        ("-N100001", [b"", b"", b"", b""], 100, "", "remunge: bad words\n", [b"", b"", b"", b""]),
+        (
+            "-N0",
+            [b"", b"", b"", b""],
+            100,
+            "",
+            "remunge: bad words\n",
+            [b"", b"", b"", b""],
+        ),
+        (
+            "-N100001",
+            [b"", b"", b"", b""],
+            100,
+            "",
+            "remunge: bad words\n",
+            [b"", b"", b"", b""],
+        ),
     ];
     for (words, replies, status, out, err, requests) in rows {
         let mut run = Run::new(alloc, Tool::Remunge, words)?;

@@ -5,7 +5,8 @@ use std::alloc::{AllocError, Global};
 use std::test::Fail;
 
 /// What is printed of the usual reply.
-const PRINTED: &[u8] = b"STATUS: 0\nRULE: 0\nPLACE: 1\nCIPHER: 4\nMAC: 5\nADDRESS: 0.0.0.0\nTIME: 1000\nTTL: 300\nUID: 7\nGID: 7\nUID_RESTRICTION: any\nGID_RESTRICTION: any\nLENGTH: 5\n\nhello";
+const PRINTED: &[u8] =
+    b"STATUS: 0\nRULE: 0\nPLACE: 1\nCIPHER: 4\nMAC: 5\nADDRESS: 0.0.0.0\nTIME: 1000\nTTL: 300\nUID: 7\nGID: 7\nUID_RESTRICTION: any\nGID_RESTRICTION: any\nLENGTH: 5\n\nhello";
 
 /// What is printed of a refusal by the tenth rule.
 const REFUSED: &[u8] = b"STATUS: 18\nRULE: 10\nPLACE: none\n";
@@ -54,9 +55,21 @@ fn replies_and_what_is_printed(rt: HostRuntime) -> Result<(), Fail> {
             b"",
             "unmunge: bad reply\n",
         ),
-        ("", b"\x4d\x01\x02\x00\x00\x00\x01\x02", 102, b"", "unmunge: bad reply\n"),
+        (
+            "",
+            b"\x4d\x01\x02\x00\x00\x00\x01\x02",
+            102,
+            b"",
+            "unmunge: bad reply\n",
+        ),
         ("", b"", 102, b"", "unmunge: bad reply\n"),
-        ("", b"\x4d\x01\x04\x00\x00", 102, b"", "unmunge: bad reply\n"),
+        (
+            "",
+            b"\x4d\x01\x04\x00\x00",
+            102,
+            b"",
+            "unmunge: bad reply\n",
+        ),
         ("", b"\x4d\x01\x04\x01", 102, b"", "unmunge: bad reply\n"),
         (
             "",
