@@ -1,12 +1,10 @@
 -- Nothing but want of memory and faults keeps a tool from coming to its end.
-use Rattle.std.proofs.Common.{◌≡◌, ◌≢◌, ◌∙◌, ℕ, ◌<◌, ◌≤◌, ◌⊎◌, List, [], ◌∷◌, ◌++◌, Option, None, Some, Bool, true, false, length, refl, sym, ap, subst, inl, inr, arith}
+use Rattle.std.proofs.Common.{◌≡◌, ◌∙◌, ℕ, ◌≤◌, ◌⊎◌, List, [], ◌∷◌, ◌++◌, Option, None, Some, Bool, true, false, length, sym, ap, subst, inl, inr, arith}
 use Rattle.std.proofs.lemmas.List.{append-nil, length-append}
 use Rattle.std.specs.Io.KnownBytes.{Appends, Consumes, IsAtEnd}
 use Rattle.byte_io.specs.TakesFirst.{TakesFirst}
 use Rattle.clap.specs.Words.{Text}
-use Rattle.wire_msg.specs.Fits.{IsMessage}
 use Rattle.wire_msg.specs.Spelling.{frame_of}
-use Rattle.wire_msg.specs.declared.kind.Side.TheVariants.{Replies}
 use Rattle.wire_msg.specs.declared.message.DecodeSaid.{DecodeSaid}
 use Rattle.wire_msg.specs.declared.message.EncodeSaid.{EncodeSaid}
 use Rattle.wire_msg.specs.declared.message.Message.{Message}
@@ -20,7 +18,6 @@ use Rattle.munge_tools.specs.InputRead as input
 use Rattle.munge_tools.specs.Munge as munge
 use Rattle.munge_tools.specs.Munge.{AskedCame, MungeCame, NoPayload, payload_limit, text_line}
 use Rattle.munge_tools.specs.MungeWords.{AskedMunge, Payload}
-use Rattle.munge_tools.specs.MungeWords as payload
 use Rattle.munge_tools.specs.Printed.{printed_text}
 use Rattle.munge_tools.specs.ReplyRead.{Input}
 use Rattle.munge_tools.specs.Things.{Same, Things}

@@ -1,5 +1,5 @@
 -- Which endings have which status.
-use Rattle.std.proofs.Common.{◌≡◌, ◌≤◌, ℕ, refl, arith}
+use Rattle.std.proofs.Common.{◌≡◌, refl, arith}
 use Rattle.munge_tools.specs.Ending.{IsOfReply, status_of}
 use Rattle.munge_tools.specs.declared.ending.Ending.{Ending}
 use Rattle.munge_tools.specs.declared.ending.Ending.TheVariants.{Done, Refused, TooLong, BadWords, Unreached, BadReply, InputFailed, OutputFailed, NoMemory}

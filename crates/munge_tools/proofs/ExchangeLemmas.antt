@@ -1,5 +1,5 @@
 -- What comes of one dial.
-use Rattle.std.proofs.Common.{◌≡◌, ◌∙◌, ℕ, ◌⊎◌, List, [], ◌∷◌, ◌++◌, Option, refl, sym, ap, subst, inl, inr}
+use Rattle.std.proofs.Common.{◌≡◌, ◌∙◌, ℕ, ◌⊎◌, List, [], ◌∷◌, ◌++◌, refl, sym, ap, subst, inl, inr}
 use Rattle.std.proofs.lemmas.List.{append-nil}
 use Rattle.std.proofs.KnownBytes.{Consumes-nil}
 use Rattle.std.specs.Io.KnownBytes.{Appends, Consumes}
@@ -12,9 +12,8 @@ use Rattle.wire_msg.specs.Spelling.{frame_of}
 use Rattle.wire_msg.specs.declared.kind.Side.{Side}
 use Rattle.wire_msg.specs.declared.kind.Side.TheVariants.{Replies}
 use Rattle.wire_msg.specs.declared.message.Message.{Message}
-use Rattle.munge_tools.specs.Exchange.{AnyReply, BeginsNoFitting, Heard, IsBadReply, IsPrefixOfNone, LeadsToFitting, NotHeard, cut, undialled, unfit, unheld, unmade, unread}
-use Rattle.munge_tools.specs.Output.{IsCut, TakesCut}
-use Rattle.munge_tools.specs.ReplyRead.{Input, Reads, Stopped, broken, ended, failed, input_of, no_memory}
+use Rattle.munge_tools.specs.Exchange.{AnyReply, Heard, IsBadReply, LeadsToFitting, NotHeard, cut, undialled, unfit, unheld, unmade, unread}
+use Rattle.munge_tools.specs.ReplyRead.{Stopped, broken, ended, failed, input_of, no_memory}
 use Rattle.munge_tools.specs.Wire.{Dialled, ReplyEnded, WireSeen}
 use Rattle.munge_tools.specs.declared.exchange.Unheard.{Unheard}
 use Rattle.munge_tools.specs.declared.exchange.Unheard.TheVariants.{BadReply}

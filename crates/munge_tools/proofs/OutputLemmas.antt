@@ -1,5 +1,5 @@
 -- What an output took of a text.
-use Rattle.std.proofs.Common.{◌≡◌, ◌∙◌, ℕ, ◌<◌, List, ◌++◌, Option, length, take, drop, sym, ap, arith, append_assoc, take-append-drop, [], length-append, length-drop}
+use Rattle.std.proofs.Common.{◌∙◌, ℕ, ◌<◌, List, ◌++◌, Option, length, take, drop, sym, ap, arith, append_assoc, take-append-drop, length-append, length-drop}
 use Rattle.std.proofs.lemmas.List.{nil_from_length}
 use Rattle.std.proofs.KnownBytes.{Appends-trans}
 use Rattle.std.specs.Io.KnownBytes.{Appends}

@@ -1,6 +1,5 @@
 -- Nothing but want of memory and faults keeps remunge from its totals.
-use Rattle.std.proofs.Common.{◌≡◌, ◌∙◌, ℕ, ◌+◌, ◌-◌, ◌<◌, ◌≤◌, ◌⊎◌, zero, suc, List, [], ◌∷◌, ◌++◌, Option, None, Some, Bool, true, false, length, refl, sym, ap, subst, inl, inr, arith}
-use Rattle.std.specs.Io.KnownBytes.{Appends}
+use Rattle.std.proofs.Common.{◌≡◌, ◌∙◌, ℕ, ◌+◌, ◌-◌, ◌≤◌, ◌⊎◌, suc, List, [], ◌∷◌, Option, None, Some, Bool, true, false, length, sym, ap, subst, inl, inr, arith}
 use Rattle.byte_io.specs.TakesFirst.{TakesFirst}
 use Rattle.clap.specs.Words.{Text}
 use Rattle.wire_msg.specs.declared.message.DecodeSaid.{DecodeSaid}
@@ -16,7 +15,6 @@ use Rattle.munge_tools.specs.Remunge as remunge
 use Rattle.munge_tools.specs.RemungeAble.{CanRun, ComesFirst, FitRounds, FitsRound, TotalsPrinted, one, two}
 use Rattle.munge_tools.specs.RemungeWords.{AskedRemunge}
 use Rattle.munge_tools.specs.Rounds.{Opened, Round, RoundRan, RoundStopped, RoundsRan, SoFar, Stops, is_to_open, making_frame, unmade, unopened}
-use Rattle.munge_tools.specs.TotalsLine.{totals_line}
 use Rattle.munge_tools.specs.Unheard.{ending_of}
 use Rattle.munge_tools.specs.Wire.{Dialled, WireSeen}
 use Rattle.munge_tools.specs.declared.ending.Ending.{Ending}

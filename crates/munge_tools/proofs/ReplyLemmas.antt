@@ -1,11 +1,11 @@
 -- What is known of a reply of which a part was read.
-use Rattle.std.proofs.Common.{◌≡◌, ◌∙◌, ℕ, ◌+◌, ◌-◌, ◌<◌, ◌≤◌, List, [], ◌++◌, Option, length, take, refl, sym, ap, subst, arith, append_assoc}
+use Rattle.std.proofs.Common.{◌≡◌, ◌∙◌, ℕ, ◌+◌, ◌-◌, ◌<◌, ◌≤◌, List, [], ◌++◌, Option, length, take, refl, sym, ap, subst, arith}
 use Rattle.std.proofs.lemmas.List.{append-nil, length-append, length-take, nil_from_length}
 use Rattle.std.proofs.Math.Seq.{take-length}
 use Rattle.std.proofs.KnownBytes.{Consumes-kept, Consumes-nil, Consumes-trans}
 use Rattle.std.specs.Io.KnownBytes.{Consumes, IsAtEnd, Keeps}
 use Rattle.byte_io.specs.Counts.{Rose}
-use Rattle.wire_msg.specs.Feeding.{Answers, Feeding, Leaves}
+use Rattle.wire_msg.specs.Feeding.{Answers, Feeding}
 use Rattle.wire_msg.specs.Fits.{IsMessage}
 use Rattle.wire_msg.specs.Frame.{IsFrame, IsUnfinished}
 use Rattle.wire_msg.specs.FrameHead.{body_limit, head_size}
@@ -13,7 +13,7 @@ use Rattle.wire_msg.specs.Spelling.{body_of, frame_of}
 use Rattle.wire_msg.specs.declared.fed.Fed.TheVariants as fed
 use Rattle.wire_msg.specs.declared.kind.Side.TheVariants.{Replies}
 use Rattle.wire_msg.specs.declared.message.Message.{Message}
-use Rattle.munge_tools.specs.ReplyRead.{AtEnd, Came, Input, PieceRefused, Reads, Stopped, Took, broken, ended, failed, no_memory}
+use Rattle.munge_tools.specs.ReplyRead.{Came, Input, PieceRefused, Reads, Stopped, Took, broken, ended, failed, no_memory}
 use Rattle.munge_tools.specs.declared.exchange.Unheard.{Unheard}
 use Rattle.munge_tools.specs.declared.exchange.Unheard.TheVariants.{Unreached, BadReply, NoMemory}
 use Rattle.munge_tools.specs.declared.reply.Step.{Step}

@@ -1,5 +1,5 @@
 -- What is known of rounds that ran.
-use Rattle.std.proofs.Common.{◌≡◌, ◌∙◌, ℕ, ◌+◌, ◌<◌, ◌≤◌, ◌⊎◌, zero, suc, List, [], ◌∷◌, Option, None, Some, Bool, true, false, ◌&&◌, cond, count_by, length, nat_eq, refl, sym, ap, subst, inl, inr, arith}
+use Rattle.std.proofs.Common.{◌≡◌, ◌∙◌, ℕ, ◌+◌, ◌<◌, ◌≤◌, ◌⊎◌, zero, suc, List, [], ◌∷◌, None, Some, Bool, true, false, ◌&&◌, cond, count_by, nat_eq, refl, sym, ap, subst, inl, inr, arith}
 use Rattle.std.proofs.lemmas.Bool.Decides.{nat_tests}
 use Rattle.std.proofs.lemmas.List.Sums.{sum_by-cons}
 use Rattle.byte_io.specs.Counts.{Rose}
@@ -9,7 +9,7 @@ use Rattle.wire_msg.specs.declared.message.Message.TheVariants.{DecodeReply}
 use Rattle.munge_tools.specs.Exchange.{Heard, NotHeard}
 use Rattle.munge_tools.specs.Fitting.{FitsDecode, FitsDecodeSaid}
 use Rattle.munge_tools.specs.RemungeWords.{AskedRemunge}
-use Rattle.munge_tools.specs.Rounds.{Adds, Counts, Made, Opened, Round, RoundAdds, RoundRan, RoundStopped, RoundsRan, SoFar, Stops, is_to_open, unopened, is_made, is_opened, is_unmade, is_unopened, one_if}
+use Rattle.munge_tools.specs.Rounds.{Adds, Counts, Made, Round, RoundAdds, RoundStopped, SoFar, Stops, is_to_open, unopened, is_made, is_opened, is_unmade, is_unopened, one_if}
 use Rattle.munge_tools.specs.Unmunge.{opening_frame}
 use Rattle.munge_tools.specs.Wire.{WireFailed, WireSeen, WireSound}
 use Rattle.munge_tools.specs.declared.exchange.Unheard.{Unheard}

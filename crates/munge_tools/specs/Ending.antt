@@ -1,5 +1,5 @@
 -- How a tool ends: its status, and what it says of that.
-use Rattle.std.specs.Prelude.{◌≡◌, ℕ, ◌≤◌, codes, List, [], ◌++◌, Option, None, Some}
+use Rattle.std.specs.Prelude.{◌≡◌, ℕ, ◌≤◌, codes, List, [], Option, None, Some}
 use Rattle.std.specs.Io.KnownBytes.{Appends}
 use Rattle.byte_io.specs.Counts.{Rose}
 use Rattle.munge_tools.specs.Line.{line_with}

@@ -1,5 +1,5 @@
 -- Which replies fit their requests.
-use Rattle.std.specs.Prelude.{◌≡◌, ℕ, Bool, ◌==◌, ◌||◌, true, List, [], ◌∷◌, is_some, nat_eq, slice_index_or}
+use Rattle.std.specs.Prelude.{◌≡◌, ℕ, Bool, ◌==◌, ◌||◌, true, List, [], ◌∷◌, is_some, slice_index_or}
 use Rattle.std.specs.List.{list_any}
 use Rattle.wire_msg.specs.declared.message.DecodeSaid.{DecodeSaid}
 use Rattle.wire_msg.specs.declared.message.EncodeSaid.{EncodeSaid}

@@ -5,7 +5,6 @@ use Rattle.clap.specs.Words.{Text}
 use Rattle.wire_msg.specs.Spelling.{frame_of}
 use Rattle.wire_msg.specs.declared.message.EncodeAsk.{EncodeAsk}
 use Rattle.wire_msg.specs.declared.message.EncodeSaid.{EncodeSaid}
-use Rattle.wire_msg.specs.declared.message.Message.{Message}
 use Rattle.wire_msg.specs.declared.message.Message.TheVariants.{EncodeReply, EncodeRequest}
 use Rattle.munge_tools.specs.Exchange.{Heard, NotHeard}
 use Rattle.munge_tools.specs.Fitting.{FitsEncode, FitsEncodeSaid}

@@ -115,9 +115,9 @@ fn count_opened(totals: &mut Totals, status: u8)
 {
     if status == 0 {
         totals.decoded += 1;
-    } else {
-        totals.failed += 1;
+        return;
     }
+    totals.failed += 1;
 }
 
 /// Has one credential made.

@@ -1,11 +1,11 @@
-use Rattle.std.proofs.Common.{◌≡◌, ◌∙◌, ℕ, ◌||◌, List, [], ◌∷◌, ◌++◌, Option, None, Some, Bool, true, false, codes, length, nat_eq, is_some, refl, sym, ap, subst, arith, append_assoc, rules}
+use Rattle.std.proofs.Common.{◌≡◌, ◌∙◌, ℕ, List, ◌++◌, Option, None, Some, true, false, codes, length, is_some, refl, ap, subst, arith, append_assoc}
 use Rattle.std.proofs.lemmas.Bool.Decides.{nat_tests}
 use Rattle.std.specs.Fmt.{decimal}
 use Rattle.wire_msg.specs.declared.message.Content.{Content}
 use Rattle.wire_msg.specs.declared.message.DecodeSaid.{DecodeSaid}
-use Rattle.munge_tools.specs.Fitting.{FitsDecodeSaid, agrees, shows_content}
+use Rattle.munge_tools.specs.Fitting.{agrees, shows_content}
 use Rattle.munge_tools.specs.PayloadLast.{PrintsPayloadLast}
-use Rattle.munge_tools.specs.Printed.{content_text, field, origin_text, owner_text, payload_text, printed_text, restrictions_text, times_text, verdict_text}
+use Rattle.munge_tools.specs.Printed.{content_text, field, origin_text, owner_text, payload_text, restrictions_text, times_text, verdict_text}
 use Rattle.munge_tools.proofs.laws.accepted_ends_with_its_payload.Goals as goal
 
 zero_of : (n : ℕ) → agrees n 0 ≡ true → n ≡ 0
