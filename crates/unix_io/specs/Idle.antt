@@ -6,6 +6,6 @@ use Rattle.unix_io.specs.declared.state.Seen.{Seen}
 abbrev pub Stopped : Seen → Type 0
 Stopped seen = seen.stopped ≡ true
 
--- the stop flag was up, or every door that was opened was over or had failed
+-- the stop flag was up, or no door was open
 abbrev pub Idle : Seen → Type 0
 Idle seen = (seen.stopped ≡ true) ⊎ (seen.open_doors ≡ 0)

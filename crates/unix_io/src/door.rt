@@ -15,14 +15,15 @@ use std::sync::{Arc, Wait};
 use std::time::Duration;
 use std::{io, rt};
 
-/// A socket cannot accept, by the number of that error.
+/// The system's number of the error that a socket is of a kind that accepts nothing.
 const EOPNOTSUPP: i32 = 95;
 
 /// How many milliseconds a door pauses where an accept failed for a cause that passes.
 const PAUSE: u64 = 100;
 
-/// The door at a path. It gives what connects there, in its order, until the stop flag is up and
-/// nobody waits any more; then it is over. What comes it does not tell.
+/// The door at a path. It gives what connects there, in its order, until the stop flag is up; it
+/// then gives what had connected before, and is over. (Where the flag goes up while accepts fail for
+/// a cause that passes, it is over at once.) What comes it does not tell.
 #[derive(Drop)]
 pub struct UnixDoor<R: rt::Files + Wait + Copy> {
     rt: R,
@@ -78,10 +79,12 @@ impl<R: rt::Files + rt::Clock + Wait + Copy> UnixDoor<R> {
     {
         let socket = self.socket.as_ref()?;
         for _ in self.rt.forever() {
-            match socket.accept() {
-                Ok(stream) => {
-                    return UnixLink::new(self.rt, &self.shared, stream, self.time).ok();
-                }
+            let link = match socket.accept() {
+                Ok(stream) => UnixLink::new(self.rt, &self.shared, stream, self.time),
+                Err(error) => Err(error),
+            };
+            match link {
+                Ok(link) => return Some(link),
                 Err(error) => {
                     if !self.goes_on(&error) {
                         return None;

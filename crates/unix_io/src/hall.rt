@@ -31,8 +31,10 @@ struct NamedOwner {
 /// Its doors, their connections and its ticker share one flag. A connection that rings raises it:
 /// then accepts and tickers that wait end at once, and doors are over once they have given what
 /// connected before. A door's socket has the mode 0600 before the first can connect, and the owner
-/// that was set; where the owner cannot be changed, it stays the process's own. Its file is removed
-/// when the door is over, has failed or is dropped.
+/// that was set; where the owner cannot be changed, it stays the process's own. Until then it stands
+/// under the path with a `~` behind it, so a path has at most 106 bytes. Its file is removed when the
+/// door is over, has failed or is dropped. A peer has 5 seconds for its request, counted from its
+/// accept, and 5 more to take the reply.
 #[derive(Drop)]
 pub struct UnixHall<R> {
     rt: R,
@@ -88,7 +90,8 @@ impl<R: rt::Files + Net + rt::Clock + Wait + Copy + Send> UnixHall<R> {
 
 impl<R: Copy> UnixHall<R> {
     /// The door at that path is for this user and this group: the file of its socket will be
-    /// theirs. It is told before the door is opened; what was told of that path first holds.
+    /// theirs, where this process may give it away. It is told before the door is opened; what was
+    /// told of that path first holds.
     pub fn set_owner(
         &mut self,
         alloc: Global,

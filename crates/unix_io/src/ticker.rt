@@ -16,8 +16,8 @@ use std::time::{Duration, Instant};
 use std::{io, rt};
 
 /// It is due after so many seconds, again and again. It stops at once where the stop flag of its
-/// hall goes up, and where every door that the hall opened is over or has failed. How often it will
-/// be due it does not tell.
+/// hall goes up, and where no door of the hall is open: each is over, has failed or was dropped, or
+/// none was opened yet. How often it will be due it does not tell.
 #[derive(Drop)]
 pub struct SleepTicker<R> {
     rt: R,
