@@ -1,4 +1,5 @@
--- A connection that brings a whole request is answered, where nothing fails.
+-- A connection that brings a whole request is answered, where nothing of it fails and the clock
+-- gives a reading.
 use Rattle.std.proofs.Common.{◌≡◌, ◌≢◌, ℕ, ◌+◌, ◌≤◌, Bool, List, [], ◌∷◌, ◌++◌, length, take, drop, Result, Ok, Err, refl, sym, ap, ◌∙◌, subst, arith}
 use Rattle.std.proofs.Math.Seq.{take-append_seam}
 use Rattle.std.proofs.lemmas.List.{append-nil, length-append, take-append-drop, take-append-le}
@@ -16,12 +17,12 @@ use Rattle.session_core.proofs.ServeLemmas.{unheard_of}
 use Rattle.session_core.proofs.StreamLemmas.{kept_consumes}
 use Rattle.session_core.specs.Connection.{Connection}
 use Rattle.session_core.specs.Partial.{end_of}
-use Rattle.session_core.specs.Reached.{CountsClockFault, CountsWriteFault, Peer, SendsWhat}
+use Rattle.session_core.specs.Reached.{CountsWriteFault, Peer, SendsWhat}
 use Rattle.session_core.specs.Reading.{CountsReadFault, IsNoRequest, ReadsNone, broken, cut}
 use Rattle.session_core.specs.Requests.{IsRequest}
 use Rattle.session_core.specs.Things.{CameToEnd, Input}
-use Rattle.session_core.specs.WholeRequest.{AnswersWhole, Brings, NoneFailed}
-use Rattle.session_core.specs.Causes.{Faults}
+use Rattle.session_core.specs.WholeRequest.{AnswersIfTimed, Brings, LinkHeld}
+use Rattle.session_core.specs.Causes.{LinkFaults}
 use Rattle.session_core.specs.declared.reached.Reached.{Reached}
 use Rattle.session_core.specs.declared.reached.Unreplied.{Unreplied}
 use Rattle.session_core.specs.declared.reached.Unreplied.TheVariants as cause
@@ -80,35 +81,36 @@ front_of_whole request rest bytes more ended fits same end (cut came some less) 
       begins = all;
     })
 
--- how a call may end where nothing failed
-ended_whole : (reply : Result (List ℕ) Unreplied) (served : Served) (end : ServeEnd) (stops : Bool) (peer peer' : Peer) (faults faults' : Faults) (size : ℕ)
-    → NoneFailed faults faults' → served.read ≡ size → SendsWhat reply stops peer peer' end
-    → CountsClockFault reply faults.clock faults'.clock → CountsWriteFault end faults.writes faults'.writes → AnswersWhole size served end
-ended_whole (Ok reply) served how.Done stops peer peer' faults faults' size none_failed same sends clock writes = same
-ended_whole (Ok reply) served how.Stopped stops peer peer' faults faults' size none_failed same sends clock writes = same
-ended_whole (Ok reply) served how.WriteFault stops peer peer' faults faults' size none_failed same sends clock writes = none_failed.writes writes
-ended_whole (Ok reply) served how.Quiet stops peer peer' faults faults' size none_failed same sends clock writes = sends
-ended_whole (Ok reply) served how.ReadFault stops peer peer' faults faults' size none_failed same sends clock writes = sends
-ended_whole (Ok reply) served how.ClockFault stops peer peer' faults faults' size none_failed same sends clock writes = sends
-ended_whole (Ok reply) served how.Malformed stops peer peer' faults faults' size none_failed same sends clock writes = sends
-ended_whole (Ok reply) served how.NoMemory stops peer peer' faults faults' size none_failed same sends clock writes = tt
-ended_whole (Ok reply) served (how.Worn ticket) stops peer peer' faults faults' size none_failed same sends clock writes = tt
-ended_whole (Err cause.ClockFault) served end stops peer peer' faults faults' size none_failed same sends clock writes = absurd (none_failed.clock clock)
-ended_whole (Err cause.NoMemory) served end stops peer peer' faults faults' size none_failed same sends clock writes =
-    subst (AnswersWhole size served) (sym sends.0) tt
-ended_whole (Err (cause.Worn ticket)) served end stops peer peer' faults faults' size none_failed same sends clock writes =
-    subst (AnswersWhole size served) (sym sends.0) tt
+-- how a call may end that read a request, where no write failed
+ended_whole : (reply : Result (List ℕ) Unreplied) (served : Served) (end : ServeEnd) (stops : Bool) (peer peer' : Peer) (faults faults' : LinkFaults) (size : ℕ)
+    → LinkHeld faults faults' → served.read ≡ size → SendsWhat reply stops peer peer' end
+    → CountsWriteFault end faults.writes faults'.writes → AnswersIfTimed size served end
+ended_whole (Ok reply) served how.Done stops peer peer' faults faults' size held same sends writes = same
+ended_whole (Ok reply) served how.Stopped stops peer peer' faults faults' size held same sends writes = same
+ended_whole (Ok reply) served how.WriteFault stops peer peer' faults faults' size held same sends writes = held.writes writes
+ended_whole (Ok reply) served how.Quiet stops peer peer' faults faults' size held same sends writes = sends
+ended_whole (Ok reply) served how.ReadFault stops peer peer' faults faults' size held same sends writes = sends
+ended_whole (Ok reply) served how.ClockFault stops peer peer' faults faults' size held same sends writes = same
+ended_whole (Ok reply) served how.Malformed stops peer peer' faults faults' size held same sends writes = sends
+ended_whole (Ok reply) served how.NoMemory stops peer peer' faults faults' size held same sends writes = tt
+ended_whole (Ok reply) served (how.Worn ticket) stops peer peer' faults faults' size held same sends writes = tt
+ended_whole (Err cause.ClockFault) served end stops peer peer' faults faults' size held same sends writes =
+    subst (AnswersIfTimed size served) (sym sends.0) same
+ended_whole (Err cause.NoMemory) served end stops peer peer' faults faults' size held same sends writes =
+    subst (AnswersIfTimed size served) (sym sends.0) tt
+ended_whole (Err (cause.Worn ticket)) served end stops peer peer' faults faults' size held same sends writes =
+    subst (AnswersIfTimed size served) (sym sends.0) tt
 
-pub complete_heard : (request heard : Message) (before : Connection) (left' : Option (List ℕ)) (faults faults' : Faults) (reached : Reached) (served : Served)
+pub complete_heard : (request heard : Message) (before : Connection) (left' : Option (List ℕ)) (faults faults' : LinkFaults) (reached : Reached) (served : Served)
     (stops : Bool) (peer peer' : Peer)
-    → Brings before request → NoneFailed faults faults' → IsRequest heard → Consumes before.input.left left' (frame_of heard)
+    → Brings before request → LinkHeld faults faults' → IsRequest heard → Consumes before.input.left left' (frame_of heard)
     → served.read ≡ length (frame_of heard) → SendsWhat reached.reply stops peer peer' served.how
-    → CountsClockFault reached.reply faults.clock faults'.clock → CountsWriteFault served.how faults.writes faults'.writes
-    → AnswersWhole (length (frame_of request)) served served.how
-complete_heard request heard before left' faults faults' reached served stops peer peer' brings none_failed fits read size sends clock writes =
+    → CountsWriteFault served.how faults.writes faults'.writes
+    → AnswersIfTimed (length (frame_of request)) served served.how
+complete_heard request heard before left' faults faults' reached served stops peer peer' brings held fits read size sends writes =
     let after = parted before.input.left left' (frame_of request ++ brings.rest) (frame_of heard) brings.left_is read in
     let same : served.read ≡ length (frame_of request) = size ∙ same_size request heard brings.rest after.rest brings.fits fits after.all_is in
-    ended_whole reached.reply served served.how stops peer peer' faults faults' (length (frame_of request)) none_failed same sends clock writes
+    ended_whole reached.reply served served.how stops peer peer' faults faults' (length (frame_of request)) held same sends writes
 
 -- nothing was left where an input came to its end
 none_behind : (before after : Input) (rest : List ℕ) → after.left ≡ Some rest → CameToEnd before after → rest ≡ []
@@ -129,13 +131,13 @@ end_brought request rest before after told kept ended =
     let empty = ap length (left.all_is ∙ none) in
     omega (arith, empty, length-append (frame_of request) rest, frame_size request)
 
-pub complete_unheard : (request : Message) (before : Connection) (after : Input) (unread : Unread) (faults faults' : Faults)
-    → Brings before request → NoneFailed faults faults' → ReadsNone unread before.input after
+pub complete_unheard : (request : Message) (before : Connection) (after : Input) (unread : Unread) (faults faults' : LinkFaults)
+    → Brings before request → LinkHeld faults faults' → ReadsNone unread before.input after
     → CountsReadFault {T = Heard} (Err unread) faults.reads faults'.reads
-    → AnswersWhole (length (frame_of request)) (unheard_of unread) (end_of unread)
-complete_unheard request before after Ended faults faults' brings none_failed none counts =
+    → AnswersIfTimed (length (frame_of request)) (unheard_of unread) (end_of unread)
+complete_unheard request before after Ended faults faults' brings held none counts =
     absurd (end_brought request brings.rest before.input after brings.left_is none.0 none.1)
-complete_unheard request before after (Malformed count) faults faults' brings none_failed none counts =
+complete_unheard request before after (Malformed count) faults faults' brings held none counts =
     absurd (no_request_brought request brings.rest none.bytes before.input after brings.fits brings.left_is none.consumed none.holds.1)
-complete_unheard request before after (ReadFault count) faults faults' brings none_failed none counts = absurd (none_failed.reads counts)
-complete_unheard request before after (NoMemory count) faults faults' brings none_failed none counts = tt
+complete_unheard request before after (ReadFault count) faults faults' brings held none counts = absurd (held.reads counts)
+complete_unheard request before after (NoMemory count) faults faults' brings held none counts = tt

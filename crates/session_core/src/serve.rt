@@ -3,7 +3,7 @@
 ghost use Rattle.std.specs.Prelude.{◌≡◌, None};
 ghost use Rattle.decode_rules.specs.Terms.{IsMadeOf, WorldFiles, terms_of};
 ghost use Rattle.session_core.specs.Answering.{is_last};
-ghost use Rattle.session_core.specs.Causes.{CausedBy, faults_of};
+ghost use Rattle.session_core.specs.Causes.{ClockCausedBy, LinkCausedBy, link_faults_of};
 ghost use Rattle.session_core.specs.Connection.{TakesReading, connection_of, timing_of};
 ghost use Rattle.session_core.specs.OnGate.{Draws, PassGoesOn, Serves};
 ghost use Rattle.session_core.specs.Reached.{CountsWriteFault, Sends, SendsWhat, Tells, peer_of};
@@ -11,7 +11,7 @@ ghost use Rattle.session_core.specs.Partial.{count_of, end_of};
 ghost use Rattle.session_core.specs.Requests.{IsRequest};
 ghost use Rattle.session_core.specs.Service.{service_of};
 ghost use Rattle.session_core.specs.Things.{input_of};
-ghost use Rattle.session_core.specs.WholeRequest.{IsComplete};
+ghost use Rattle.session_core.specs.WholeRequest.{IsCompleteByLink};
 
 use crate::reached::{Reached, Unreplied, reach};
 use crate::request::{Unread, read_alone};
@@ -60,18 +60,18 @@ pub fn serve_one<L: Link, C: Clock, R: Replay + Drop, W: Wait>(
     ensures draws { Draws dice.old dice.new result.drawn }
     ensures pass { PassGoesOn pass.old pass.new }
 
-    ensures caused { CausedBy
-        (faults_of (L.read_faults conn.old) (L.write_faults conn.old) (C.clock_faults clock.old))
-        (faults_of (L.read_faults conn.new) (L.write_faults conn.new) (C.clock_faults clock.new))
-        result.how }
+    ensures link_caused { LinkCausedBy
+        (link_faults_of (L.read_faults conn.old) (L.write_faults conn.old))
+        (link_faults_of (L.read_faults conn.new) (L.write_faults conn.new)) result.how }
+    ensures clock_caused { ClockCausedBy
+        (C.clock_faults clock.old) (C.clock_faults clock.new) result.how }
 
-    // What no fault can excuse.
-    ensures complete { IsComplete
+    // What no fault of the connection can excuse.
+    ensures complete { IsCompleteByLink
         (connection_of (input_of (L.left conn.old) (L.ends conn.old))
         (L.taken conn.old) (L.rings conn.old))
-        (faults_of (L.read_faults conn.old) (L.write_faults conn.old) (C.clock_faults clock.old))
-        (faults_of (L.read_faults conn.new) (L.write_faults conn.new) (C.clock_faults clock.new))
-        result }
+        (link_faults_of (L.read_faults conn.old) (L.write_faults conn.old))
+        (link_faults_of (L.read_faults conn.new) (L.write_faults conn.new)) result }
 {
     match read_alone(alloc, conn) {
         Ok(heard) => {

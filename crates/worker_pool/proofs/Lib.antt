@@ -1,5 +1,6 @@
 pub mod Account
 pub mod Accounts
+pub mod Completes
 pub mod Deals
 pub mod Drawings
 pub mod Gathers

@@ -6,7 +6,7 @@ use Rattle.session_core.specs.OnGate.{Serves}
 use Rattle.session_core.specs.Reached.{peer_of}
 use Rattle.session_core.specs.Service.{service_of}
 use Rattle.session_core.specs.Things.{input_of}
-use Rattle.session_core.specs.WholeRequest.{AnswersWhole}
+use Rattle.session_core.specs.WholeRequest.{AnswersIfTimed}
 use Rattle.session_core.specs.declared.served.Served.{Served}
 use Rattle.session_core.proofs.ServeLemmas.{heard_serves, unheard_serves}
 use Rattle.session_core.proofs.WholeLemmas.{complete_heard, complete_unheard}
@@ -29,12 +29,11 @@ returns-in-Ok-clause-serves g c = λ files is.
     c.send.ensures.tells (rw (taken, rings) at c.send.ensures.sends) (c.reach-reached.ensures.reaches files is)
 
 pub returns-in-Ok-clause-complete : goal.returns-in-Ok-clause-complete
-returns-in-Ok-clause-complete g c = λ request brings none_failed.
+returns-in-Ok-clause-complete g c = λ request brings held.
     complete_heard request c.in-Ok.heard.request
     (connection_of (input_of (g.L.Source.left c.args.conn.now) (g.L.Source.ends c.args.conn.now)) (g.L.Sink.taken c.args.conn.now) (g.L.Link.rings c.args.conn.now))
     (g.L.Source.left c.read_alone.new.input) _ _ c.reach-reached.result c.send.result _ _ _
-    brings none_failed c.in-Ok.ensures.fits c.in-Ok.ensures.read (c.send.ensures.tells.read_is ∙ c.in-Ok.ensures.size) c.send.ensures.sends
-    c.reach-reached.ensures.faults
+    brings held c.in-Ok.ensures.fits c.in-Ok.ensures.read (c.send.ensures.tells.read_is ∙ c.in-Ok.ensures.size) c.send.ensures.sends
     (let laws = g.met.L.Link g.world.𝓛 g.world.𝓜 g.world.𝓡 ((λ s x. x), (λ x. x), (λ x. x), λ x. x) in
     rw (laws.reads_leave_write_faults _ _ c.in-Ok.ensures.beside) at c.send.ensures.faults)
 
@@ -53,9 +52,9 @@ returns-in-Err-clause-serves g c = λ files is.
     (laws.reads_leave_taken _ _ c.in-Err.ensures.beside) (laws.reads_leave_rings _ _ c.in-Err.ensures.beside))
 
 pub returns-in-Err-clause-complete : goal.returns-in-Err-clause-complete
-returns-in-Err-clause-complete g c = λ request brings none_failed.
-    subst (λ (served : Served). AnswersWhole (length (frame_of request)) served served.how) (sym c.unheard.ensures)
+returns-in-Err-clause-complete g c = λ request brings held.
+    subst (λ (served : Served). AnswersIfTimed (length (frame_of request)) served served.how) (sym c.unheard.ensures)
     (complete_unheard request
     (connection_of (input_of (g.L.Source.left c.args.conn.now) (g.L.Source.ends c.args.conn.now)) (g.L.Sink.taken c.args.conn.now) (g.L.Link.rings c.args.conn.now))
-    (input_of (g.L.Source.left c.read_alone.new.input) (g.L.Source.ends c.read_alone.new.input)) c.in-Err.cause _ _ brings none_failed
+    (input_of (g.L.Source.left c.read_alone.new.input) (g.L.Source.ends c.read_alone.new.input)) c.in-Err.cause _ _ brings held
     c.in-Err.ensures.none c.in-Err.ensures.faults)
