@@ -26,7 +26,7 @@ use Rattle.worker_pool.proofs.Tells.{served_told}
 
 -- ---- one connection, in a longer history and within a higher bound
 
-worn_higher : (bound higher : ℕ) (end : ServeEnd) → bound ≤ higher → WornWithin bound end → WornWithin higher end
+pub worn_higher : (bound higher : ℕ) (end : ServeEnd) → bound ≤ higher → WornWithin bound end → WornWithin higher end
 worn_higher bound higher (how.Worn ticket) below worn = let high = worn.1 in (worn.0, omega arith)
 worn_higher bound higher how.Done below worn = tt
 worn_higher bound higher how.Stopped below worn = tt
@@ -52,7 +52,7 @@ stands_longer service seen more bound higher before after served (Some place) be
 stands_longer service seen more bound higher before after served None below at =
     record { worn = worn_higher bound higher served.how below at.worn; is_served = at.is_served }
 
-marks_longer : (number : ℕ) (seen more : List Event) (rule place : Option ℕ) → Marks number seen rule place
+pub marks_longer : (number : ℕ) (seen more : List Event) (rule place : Option ℕ) → Marks number seen rule place
     → Marks number (seen ++ more) rule place
 marks_longer number seen more rule (Some place) at = record {
   before = at.before;
@@ -112,7 +112,7 @@ leaves_on how.ClockFault old new same = leaves_same old new same
 leaves_on how.Malformed old new same = leaves_same old new same
 leaves_on how.NoMemory old new same = leaves_same old new same
 
-worn_now : (end : ServeEnd) (old new : PassState) → LeavesPass end old new → WornWithin new.highest end
+pub worn_now : (end : ServeEnd) (old new : PassState) → LeavesPass end old new → WornWithin new.highest end
 worn_now (how.Worn ticket) old new worn =
     let h : new.highest ≡ ticket = ap (λ (z : PassState). z.highest) worn.after_is in (worn.worn, omega arith)
 worn_now how.Done old new same = tt
@@ -125,7 +125,7 @@ worn_now how.Malformed old new same = tt
 worn_now how.NoMemory old new same = tt
 
 -- the connection stands in what its pass has seen after the call
-stands_now : (service : Service) (old new : PassState) (before after : Connection) (served : Served) (place : Option ℕ)
+pub stands_now : (service : Service) (old new : PassState) (before after : Connection) (served : Served) (place : Option ℕ)
     → Serves service old new before after served place → StandsIn service new.seen new.highest before after served place
 stands_now service old new before after served (Some place) serves = record {
   made = serves.made;
@@ -138,7 +138,7 @@ stands_now service old new before after served (Some place) serves = record {
 stands_now service old new before after served None serves =
     record { worn = worn_now served.how old new serves.leaves; is_served = serves.is_served }
 
-moves_by : (service : Service) (old new : PassState) (before after : Connection) (served : Served) (place : Option ℕ)
+pub moves_by : (service : Service) (old new : PassState) (before after : Connection) (served : Served) (place : Option ℕ)
     → service.number ≡ old.number → Serves service old new before after served place → Moves old new served.rule place
 unfolding Leaves
 moves_by service old new before after served (Some place) number serves = record {
@@ -158,11 +158,11 @@ moves_now sight world seed old new job done made is =
     moves_by (service_of (terms_of world job.who made.files) seed old.number) old new (sight.connection job.conn)
     (sight.connection done.conn) done.served done.served.place refl (is.serves made.files made.made)
 
-same_number : (old new : PassState) (rule place : Option ℕ) → Moves old new rule place → new.number ≡ old.number
+pub same_number : (old new : PassState) (rule place : Option ℕ) → Moves old new rule place → new.number ≡ old.number
 same_number old new rule (Some place) moves = ap (λ (z : PassState). z.number) moves.enters.after_is
 same_number old new rule None moves = ap (λ (z : PassState). z.number) moves.after_is
 
-marks_now : (old new : PassState) (rule place : Option ℕ) → Moves old new rule place → Marks new.number new.seen rule place
+pub marks_now : (old new : PassState) (rule place : Option ℕ) → Moves old new rule place → Marks new.number new.seen rule place
 marks_now old new rule (Some place) moves = record {
   before = moves.before;
   entry = moves.entry;

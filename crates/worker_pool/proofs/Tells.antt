@@ -73,7 +73,7 @@ served_told service made before after served is = ends_told service made _ is.ex
 
 -- ---- a gate that was not worn
 
-ends_unworn : (service : Service) (made : Made) (ended : Type 0) (exchange : Exchange) (served : Served) (end : ServeEnd)
+pub ends_unworn : (service : Service) (made : Made) (ended : Type 0) (exchange : Exchange) (served : Served) (end : ServeEnd)
     → EndsAs service (Some made) ended exchange served end → IsNotWorn end
 ends_unworn service made ended exchange served how.Done is = tt
 ends_unworn service made ended exchange served how.Stopped is = tt

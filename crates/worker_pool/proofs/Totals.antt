@@ -117,7 +117,7 @@ total weight numbers at (event ∷ events) once made =
     let both = sum_both (λ n. cond (nat_eq m n) (weight at) 0) (λ n. made_by weight n (at + 1) events) numbers in
     omega arith
 
-all_ones : (at : ℕ) (history : List Event) → all_places (λ k. 1) at history ≡ length history
+pub all_ones : (at : ℕ) (history : List Event) → all_places (λ k. 1) at history ≡ length history
 all_ones at [] = refl
 all_ones at (event ∷ events) = let rest = all_ones (at + 1) events in omega arith
 
@@ -171,7 +171,7 @@ team_served {L} {C} work seen bound (n ∷ ns) (b ∷ bs) all =
 
 -- ---- places
 
-at_test : (place : ℕ) (o : Option ℕ) → cond {A = ℕ} (is_at place o) 1 0 ≡ at_place (λ k. cond (nat_eq place k) 1 0) o
+pub at_test : (place : ℕ) (o : Option ℕ) → cond {A = ℕ} (is_at place o) 1 0 ≡ at_place (λ k. cond (nat_eq place k) 1 0) o
 at_test place None = refl
 at_test place (Some k) = refl
 
@@ -183,7 +183,7 @@ sum_as P f g same (x ∷ xs) all =
     let one = sum_by-cons f x xs in
     let two = sum_by-cons g x xs in omega arith
 
-places_range : (weight : ℕ → ℕ) (at : ℕ) (history : List Event) → all_places weight at history ≡ sum_by weight (range_with_len at (length history))
+pub places_range : (weight : ℕ → ℕ) (at : ℕ) (history : List Event) → all_places weight at history ≡ sum_by weight (range_with_len at (length history))
 places_range weight at [] = refl
 places_range weight at (event ∷ events) =
     let rest = places_range weight (at + 1) events in
@@ -196,9 +196,13 @@ get_there [] ys x = refl
 get_there (y ∷ xs) ys x = get_there xs ys x
 
 -- the entry is a look-up
-looked_up : Option Event → Bool
+pub looked_up : Option Event → Bool
 looked_up None = false
 looked_up (Some event) = is_look_up event
+
+pub purge_not_looked : (pass moment : ℕ) → looked_up (Some (Purge pass moment)) ≡ false
+unfolding looked_up
+purge_not_looked pass moment = refl
 
 -- what is told of an entry says what it is
 told_said : (before : List Event) (entry : Event) (rule : Option ℕ) (place : ℕ) (said : Verdict) → TellsRule before entry rule
@@ -213,7 +217,7 @@ told_looked before (Admit pass pair moment) rule place told = ap (tells_look_up 
 told_looked before (Idle pass) rule place told = ap (tells_look_up (Some place)) told
 told_looked before (Purge pass moment) rule place told = absurd told
 
-said_at : (number : ℕ) (seen : List Event) (rule place : Option ℕ) (said : Verdict) → Marks number seen rule place
+pub said_at : (number : ℕ) (seen : List Event) (rule place : Option ℕ) (said : Verdict) → Marks number seen rule place
     → cond {A = ℕ} (tells said place rule) 1 0 ≡ at_place (λ k. cond (is_said said (take k seen) (slice_get seen k)) 1 0) place
 said_at number seen rule None said marks = refl
 said_at number seen rule (Some place) said marks =
@@ -227,7 +231,7 @@ said_at number seen rule (Some place) said marks =
     (told_said before entry rule place said marks.told
     ∙ (ap (λ l. is_said said l (Some entry)) (sym front) ∙ ap (λ o. is_said said (take place seen) o) (sym there)))
 
-looked_at : (number : ℕ) (seen : List Event) (rule place : Option ℕ) → Marks number seen rule place
+pub looked_at : (number : ℕ) (seen : List Event) (rule place : Option ℕ) → Marks number seen rule place
     → cond {A = ℕ} (tells_look_up place rule) 1 0 ≡ at_place (λ k. cond (looked_up (slice_get seen k)) 1 0) place
 unfolding looked_up
 looked_at number seen rule None marks = refl
@@ -238,7 +242,7 @@ looked_at number seen rule (Some place) marks =
     ap (λ l. slice_get l place) marks.history_is ∙ (ap (λ k. slice_get (before ++ entry ∷ marks.others) k) marks.place_is ∙ get_there before marks.others entry) in
     ap (λ b. cond {A = ℕ} b 1 0) (told_looked before entry rule place marks.told ∙ ap looked_up (sym there))
 
-look_ups : (seen front events : List Event) (at : ℕ) → seen ≡ front ++ events → at ≡ length front
+pub look_ups : (seen front events : List Event) (at : ℕ) → seen ≡ front ++ events → at ≡ length front
     → all_places (λ k. cond (looked_up (slice_get seen k)) 1 0) at events ≡ count_by is_look_up events
 unfolding looked_up
 look_ups seen front [] at is here = refl

@@ -6,6 +6,7 @@ ghost use Rattle.munge_types.specs.declared.history.Verdict.TheVariants.{Accepte
 ghost use Rattle.decode_rules.specs.VerdictRules.{verdict_rule};
 ghost use Rattle.worker_pool.specs.Pool.{Tallies};
 ghost use Rattle.worker_pool.specs.Tally.{tells, tells_look_up};
+ghost use Rattle.worker_pool.specs.Tallying.{CountedBoth, CountedOne, more_counted};
 
 use crate::job::Done;
 use munge_types::Verdict;
@@ -22,6 +23,51 @@ pub struct Tally {
     pub replayed: u64,
     /// Those of pairs that had expired.
     pub expired: u64,
+}
+
+impl Tally {
+    /// Nothing was counted.
+    pub(crate) fn none() -> Tally
+        ensures { result ≡ record { presented = 0; accepted = 0; replayed = 0; expired = 0 } }
+    {
+        Tally {
+            presented: 0,
+            accepted: 0,
+            replayed: 0,
+            expired: 0,
+        }
+    }
+
+    /// With what is told of one connection more. A count stands still at 2^64 - 1.
+    pub(crate) fn with(self, served: &Served) -> Tally
+        ensures { CountedOne served.now.place served.now.rule self result }
+    {
+        Tally {
+            presented: more_if(looked_up(served), self.presented),
+            accepted: more_if(was_told(served, Verdict::Accepted), self.accepted),
+            replayed: more_if(was_told(served, Verdict::Replayed), self.replayed),
+            expired: more_if(was_told(served, Verdict::Expired), self.expired),
+        }
+    }
+
+    /// What both counted. A count stands still at 2^64 - 1.
+    pub(crate) fn and(self, other: Tally) -> Tally
+        ensures { CountedBoth self other result }
+    {
+        Tally {
+            presented: self.presented.saturating_add(other.presented),
+            accepted: self.accepted.saturating_add(other.accepted),
+            replayed: self.replayed.saturating_add(other.replayed),
+            expired: self.expired.saturating_add(other.expired),
+        }
+    }
+}
+
+/// One more where it is so.
+fn more_if(so: bool, count: u64) -> u64
+    ensures { result ≡ more_counted so count }
+{
+    if so { count.saturating_add(1) } else { count }
 }
 
 /// The decode rule that a look-up with this verdict comes to.

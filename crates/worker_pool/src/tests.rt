@@ -1,6 +1,10 @@
 //! Pools over connections in memory, and two workers that have to run beside each other.
 
+mod daemon;
 mod flags;
+mod late;
+mod many;
+mod moves;
 
 use crate::{Done, Job, PoolEnd, pool_run};
 use byte_io::{MemClock, MemLink};

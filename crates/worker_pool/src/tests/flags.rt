@@ -2,7 +2,7 @@
 
 ghost use Rattle.std.specs.Prelude.{◌≡◌, ℕ, ◌≤◌, None, IfOk, OnOk, OnErr};
 
-use byte_io::{Link, MemLink, Sink, Source};
+use byte_io::{Door, Link, MemLink, Next, Sink, Source};
 use munge_types::Failed;
 use std::alloc::Global;
 use std::sync::atomic::{AtomicBool, Ordering};
@@ -27,7 +27,10 @@ impl<'a> FlagLink<'a> {
         mine: &'a AtomicBool,
         theirs: &'a AtomicBool,
         bytes: Vec<u8>,
-    ) -> FlagLink<'a> {
+    ) -> FlagLink<'a>
+        ensures reads { result.faults ≡ 0 }
+        ensures writes { result.link.sink.faults ≡ 0 }
+    {
         FlagLink {
             mine,
             theirs,
@@ -113,4 +116,64 @@ impl<'a> Link for FlagLink<'a> {
     ghost writes_leave_ends = { Prim.search rules };
 
     ghost writes_leave_rings = { Prim.search rules };
+}
+
+/// A door with two connections, of which each waits for the other's flag. It tells nothing of them.
+#[derive(Drop)]
+pub(super) struct FlagDoor<'a> {
+    alloc: Global,
+    one: &'a AtomicBool,
+    other: &'a AtomicBool,
+    bytes: &'a [u8],
+    given: u32,
+    faults: u64,
+}
+
+impl<'a> FlagDoor<'a> {
+    /// Both connections give these bytes.
+    pub(super) fn new(
+        alloc: Global,
+        one: &'a AtomicBool,
+        other: &'a AtomicBool,
+        bytes: &'a [u8],
+    ) -> FlagDoor<'a> {
+        FlagDoor {
+            alloc,
+            one,
+            other,
+            bytes,
+            given: 0,
+            faults: 0,
+        }
+    }
+}
+
+impl<'a> Door for FlagDoor<'a> {
+    ghost use Rattle.std.proofs.Common.{rules};
+
+    type Conn = FlagLink<'a>;
+
+    ghost coming = { λ _. None };
+
+    ghost door_faults = { λ s. s.faults };
+
+    ghost is_over = { λ s. 2 ≤ s.given };
+
+    fn accept(&mut self) -> Next<FlagLink<'a>> {
+        let (mine, theirs) = match self.given {
+            0 => (self.one, self.other),
+            1 => (self.other, self.one),
+            _ => return Next::Over,
+        };
+        self.given += 1;
+        match self.bytes.to_vec(self.alloc) {
+            Ok(bytes) => Next::Conn(FlagLink::new(self.alloc, mine, theirs, bytes)),
+            Err(_) => {
+                self.faults = self.faults.saturating_add(1);
+                Next::Failed
+            }
+        }
+    }
+
+    ghost over_at_none = { Prim.search rules };
 }
