@@ -1,21 +1,26 @@
-# munged, built with the kit's command `rt`.
-#   make run          proves and builds the program, with a line for each crate; then runs the stored
+# munged and its client programs munge, unmunge and remunge, built with the kit's command `rt`.
+#   make run          proves and builds the four, with a line for each crate; then runs munged's stored
 #                     first session, and seals a credential and opens it twice, frame by frame
-#   make try          proves and builds it, and runs it for what no clause says of main: that it hands
-#                     on all of its words, each stream and the status
-#   make install      proves and builds it, and puts it into DESTDIR PREFIX/sbin as munged
-#   make uninstall    takes it away from there
+#   make build        proves and builds them
+#   make try          proves and builds them, and runs them for what no clause says of their mains: that
+#                     they hand on all of their words, each stream, the connection and the status
+#   make install      proves and builds them, and puts munged into DESTDIR PREFIX/sbin, and the client
+#                     programs into DESTDIR PREFIX/bin
+#   make uninstall    takes them away from there
 #   make check        looks over the documents, the tests' vectors and what is made from the sources
 #   make docs         makes again what documents have from the sources
-# Variables: PREFIX is where it is to run, DESTDIR a folder that stands for / while a package is made,
-# and CPU the processor to build for, in the kit's words: x86-64 (any), x86-64-v2 (what the kit takes
-# where CPU is empty) or x86-64-v3.
+# Variables: PREFIX is where they are to run, DESTDIR a folder that stands for / while a package is
+# made, and CPU the processor to build for, in the kit's words: x86-64 (any), x86-64-v2 (what the kit
+# takes where CPU is empty) or x86-64-v3.
 PREFIX ?= /usr/local
 DESTDIR ?=
 CPU ?=
 PROGRAM = crates/munged_run
 BUILT = $(PROGRAM)/out/munged_run
-INSTALLED = $(DESTDIR)$(PREFIX)/sbin/munged
+TOOLS = munge unmunge remunge
+BUILT_TOOLS = $(foreach tool,$(TOOLS),crates/$(tool)/out/$(tool))
+SBIN = $(DESTDIR)$(PREFIX)/sbin
+BIN = $(DESTDIR)$(PREFIX)/bin
 
 .PHONY: run build try install uninstall check docs
 
@@ -24,16 +29,18 @@ run: build
 	tools/seal-and-open $(BUILT)
 
 build:
-	tools/build munged_run $(CPU) -- session data/key 7 7
+	tools/build munged_run $(TOOLS) $(if $(CPU),--cpu $(CPU)) -- --version
 
 try: build
 	tools/try-main $(BUILT)
+	tools/try-tools
 
 install: build
-	install -D -m 0755 $(BUILT) $(INSTALLED)
+	install -D -m 0755 $(BUILT) $(SBIN)/munged
+	install -D -m 0755 -t $(BIN) $(BUILT_TOOLS)
 
 uninstall:
-	rm -f $(INSTALLED)
+	rm -f $(SBIN)/munged $(TOOLS:%=$(BIN)/%)
 
 check:
 	@mkdir -p build; failed=0; \

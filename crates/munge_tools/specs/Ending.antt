@@ -79,6 +79,18 @@ IsAfterReply BadWords = ⊥
 IsAfterReply Unreached = ⊥
 IsAfterReply BadReply = ⊥
 
+-- a tool may end so where it has no words
+abbrev pub IsWithoutWords : Ending → Type 0
+IsWithoutWords BadWords = Unit {0}
+IsWithoutWords NoMemory = Unit {0}
+IsWithoutWords (Done status) = ⊥
+IsWithoutWords (Refused status) = ⊥
+IsWithoutWords TooLong = ⊥
+IsWithoutWords Unreached = ⊥
+IsWithoutWords BadReply = ⊥
+IsWithoutWords InputFailed = ⊥
+IsWithoutWords OutputFailed = ⊥
+
 -- what contracts see of the error stream: the bytes that it took, where it tells them, and how many
 -- writes failed
 pub record Errors : Type 0 where

@@ -17,6 +17,7 @@ pub mod RemungeWords
 pub mod ReplyRead
 pub mod Rounds
 pub mod Status
+pub mod Telling
 pub mod Things
 pub mod TotalsLine
 pub mod Unheard

@@ -2,6 +2,7 @@
 //! open a credential and prints what that says, and remunge has many credentials made and counts.
 #![tactic(auto)]
 
+mod beginning;
 mod ending;
 mod exchange;
 mod fitting;
@@ -17,6 +18,7 @@ mod remunge_words;
 mod replies;
 mod reply;
 mod rounds;
+mod telling;
 #[cfg(test)]
 mod tests;
 mod totals;
@@ -24,7 +26,10 @@ mod unmunge;
 mod unmunge_words;
 mod words;
 
+pub use beginning::begin;
+pub use ending::{Ending, end};
 pub use munge::munge_run;
 pub use printing::printed;
 pub use remunge::remunge_run;
+pub use telling::About;
 pub use unmunge::unmunge_run;

@@ -4,4 +4,5 @@ mod fixture;
 mod munge;
 mod printing;
 mod remunge;
+mod telling;
 mod unmunge;
