@@ -108,7 +108,7 @@ finishes laws session own requests read rest ended beyond how.Budget it no_read 
 finishes laws session own requests read rest ended beyond how.NoMemory it no_read no_write no_clock leaves = wanted refl
 
 -- what is read of a told file is its front
-read_front : (files : Option (List (List ℕ × List ℕ))) (told : List (List ℕ × List ℕ))
+pub read_front : (files : Option (List (List ℕ × List ℕ))) (told : List (List ℕ × List ℕ))
     (name : List ℕ) (most : ℕ) (bytes whole : List ℕ) → files ≡ Some told
     → file_of told name ≡ Some whole → ReadsFile files name most bytes → bytes ≡ take most whole
 read_front files told name most bytes whole files_told whole_told reads =

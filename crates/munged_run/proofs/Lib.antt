@@ -8,4 +8,6 @@ pub mod NumberLemmas
 pub mod RunLemmas
 pub mod Seeds
 pub mod ServedJobs
+pub mod StopLemmas
+pub mod StopWell
 pub mod StreamOfRequests

@@ -9,7 +9,11 @@ use Rattle.munged_run.specs.Ending.{Ending, Errors}
 use Rattle.munged_run.specs.Ending as ending
 use Rattle.munged_run.specs.ExerciseWords.{exercise_of}
 use Rattle.munged_run.specs.LoadServed.{IsHistoryOf, IsLoadServed}
+use Rattle.munged_run.specs.Program.{Given}
+use Rattle.munged_run.specs.Stop.{StopCame}
+use Rattle.munged_run.specs.StopWords.{stop_of}
 use Rattle.munged_run.specs.Totals.{totals_line}
+use Rattle.munged_run.specs.Wire.{WireSeen}
 use Rattle.munged_run.specs.declared.exercise_words.AskedExercise.{AskedExercise}
 
 -- the totals of the empty history
@@ -67,13 +71,19 @@ pub data ExerciseCame (asked : AskedExercise) (tally : Tally) (kept : ℕ) (sile
   served : (history : List Event) → AfterLoad asked history tally kept out how
       → ExerciseCame asked tally kept silent out how
 
--- What the program comes to.
-pub data DaemonCame (words : List (List ℕ)) (tally : Tally) (kept : ℕ) (silent : Type 0)
-    (out : Output) (how : Ending) : Type 0 where
+-- What the program comes to, where `silent` says that the output is as before, and `untouched` that
+-- the hall is.
+pub data DaemonCame (given : Given) (tally : Tally) (kept : ℕ) (silent untouched : Type 0)
+    (out : Output) (before after : WireSeen) (how : Ending) : Type 0 where
   -- the words ask for nothing
-  no_command : exercise_of words ≡ None → silent → NothingServed tally kept
-      → how ≡ ending.no_command → DaemonCame words tally kept silent out how
+  no_command : exercise_of given.words ≡ None → stop_of given.words ≡ None → silent → untouched
+      → NothingServed tally kept → how ≡ ending.no_command
+      → DaemonCame given tally kept silent untouched out before after how
   -- they ask for a load
-  exercise : (asked : AskedExercise) → exercise_of words ≡ Some asked
+  exercise : (asked : AskedExercise) → exercise_of given.words ≡ Some asked → untouched
       → ExerciseCame asked tally kept silent out how
-      → DaemonCame words tally kept silent out how
+      → DaemonCame given tally kept silent untouched out before after how
+  -- they ask that a daemon stops
+  stop : (config : List ℕ) → stop_of given.words ≡ Some config → silent
+      → NothingServed tally kept → StopCame given.files config untouched before after how
+      → DaemonCame given tally kept silent untouched out before after how

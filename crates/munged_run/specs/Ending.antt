@@ -8,7 +8,7 @@ use Rattle.option_file.specs.declared.refused.OptionRefused.{OptionRefused}
 use Rattle.option_file.specs.declared.refused.OptionRefused.TheVariants as refused
 use Rattle.session_core.specs.declared.end.HowEnded.{HowEnded}
 use Rattle.session_core.specs.declared.end.HowEnded.TheVariants as how
-use Rattle.munged_run.specs.Status.{success, bad_words, unread_file, bad_size, bad_options, failed_input, failed_output, failed_clock, bad_request, want_of_memory, too_many_requests}
+use Rattle.munged_run.specs.Status.{success, bad_words, unread_file, bad_size, bad_options, failed_input, failed_output, failed_clock, bad_message, want_of_memory, too_many_requests, failed_socket}
 
 pub data Ending : Type 0 where
   -- the command was done
@@ -36,6 +36,12 @@ pub data Ending : Type 0 where
   no_memory : Ending
   -- all requests were answered that one session may answer, and more came
   budget : Ending
+  -- no socket of the option file has control
+  no_control : Ending
+  -- a dial, a read or a write of a socket failed
+  socket_failed : Ending
+  -- the answer to a request to stop is another than that the daemon stops
+  unanswered : Ending
 
 -- the status of the process
 abbrev pub status_of : Ending → ℕ
@@ -49,9 +55,12 @@ status_of (too_long name size) = bad_options
 status_of input_failed = failed_input
 status_of output_failed = failed_output
 status_of clock_failed = failed_clock
-status_of (malformed place) = bad_request
+status_of (malformed place) = bad_message
 status_of no_memory = want_of_memory
 status_of budget = too_many_requests
+status_of no_control = bad_options
+status_of socket_failed = failed_socket
+status_of unanswered = bad_message
 
 -- the line on standard error, with its end; none where the command was done
 abbrev pub line_of : Ending → List ℕ
@@ -72,6 +81,9 @@ line_of (malformed place) =
     codes "munged: malformed frame at " ++ (decimal place ++ codes "\n")
 line_of no_memory = codes "munged: no memory\n"
 line_of budget = codes "munged: 1048576 requests answered\n"
+line_of no_control = codes "munged: no control socket\n"
+line_of socket_failed = codes "munged: socket failed\n"
+line_of unanswered = codes "munged: no answer to stop\n"
 
 -- how the program ends where an option file is refused
 abbrev pub ending_by : OptionRefused → Ending

@@ -2,7 +2,7 @@
 use Rattle.munged_run.specs.Ending.{Ending}
 use Rattle.munged_run.specs.Ending as told
 use Rattle.munged_run.specs.declared.ending.Ending.{Ending as EndingHeld}
-use Rattle.munged_run.specs.declared.ending.Ending.TheVariants.{Done, NoCommand, Unread, WrongSize, BadOptions, BadLine, TooLong, InputFailed, OutputFailed, ClockFailed, Malformed, NoMemory, Budget}
+use Rattle.munged_run.specs.declared.ending.Ending.TheVariants.{Done, NoCommand, Unread, WrongSize, BadOptions, BadLine, TooLong, InputFailed, OutputFailed, ClockFailed, Malformed, NoMemory, Budget, NoControl, SocketFailed, Unanswered}
 
 abbrev pub ending_told : EndingHeld → Ending
 ending_told Done = told.done
@@ -18,3 +18,6 @@ ending_told ClockFailed = told.clock_failed
 ending_told (Malformed place) = told.malformed place
 ending_told NoMemory = told.no_memory
 ending_told Budget = told.budget
+ending_told NoControl = told.no_control
+ending_told SocketFailed = told.socket_failed
+ending_told Unanswered = told.unanswered

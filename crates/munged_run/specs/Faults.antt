@@ -23,6 +23,9 @@ FaultOf ending.clock_failed before now = now ≡ before
 FaultOf (ending.malformed place) before now = now ≡ before
 FaultOf ending.no_memory before now = now ≡ before
 FaultOf ending.budget before now = now ≡ before
+FaultOf ending.no_control before now = now ≡ before
+FaultOf ending.socket_failed before now = now ≡ before
+FaultOf ending.unanswered before now = now ≡ before
 
 -- so it is after what was read, or after the end for want of it
 abbrev pub CountsFault : {T : Type 0} → Result T EndingHeld → (before now : ℕ) → Type 0

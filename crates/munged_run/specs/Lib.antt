@@ -16,6 +16,11 @@ pub mod SeedFile
 pub mod ServedBy
 pub mod SessionCommand
 pub mod Status
+pub mod Stop
+pub mod StopAnswer
+pub mod StopWords
+pub mod Stoppable
 pub mod Totals
 pub mod Unread
 pub mod WholeRequests
+pub mod Wire

@@ -33,9 +33,9 @@ failed_output = 6
 abbrev pub failed_clock : ℕ
 failed_clock = 7
 
--- what came is no request
-abbrev pub bad_request : ℕ
-bad_request = 9
+-- what came is no request, or not the answer that the daemon stops
+abbrev pub bad_message : ℕ
+bad_message = 9
 
 -- no memory was left
 abbrev pub want_of_memory : ℕ
@@ -44,3 +44,7 @@ want_of_memory = 10
 -- all requests were answered that one session may answer, and more came
 abbrev pub too_many_requests : ℕ
 too_many_requests = 11
+
+-- a dial, a read or a write of a socket failed
+abbrev pub failed_socket : ℕ
+failed_socket = 12

@@ -17,7 +17,7 @@ use option_file::Options;
 use std::alloc::Global;
 
 /// The most bytes that are read of an option file, one more than it may have.
-const OPTIONS_ROOM: u32 = 65_537;
+pub(crate) const OPTIONS_ROOM: u32 = 65_537;
 
 /// What is printed where no refusal stands.
 const ACCEPTED: &[u8] = b"ok\n";

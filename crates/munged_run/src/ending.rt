@@ -12,8 +12,10 @@ ghost use Rattle.munged_run.specs.Ending.{
 };
 ghost use Rattle.munged_run.specs.EndingTold.{ending_told};
 ghost use Rattle.munged_run.specs.Line.{text_of};
+ghost use Rattle.munged_run.specs.Stop.{after_asking};
 
 use crate::line::{Line, Number, write_line};
+use crate::stop_request::AskedToStop;
 use byte_io::Sink;
 use option_file::OptionRefused;
 use session_core::HowEnded;
@@ -48,6 +50,12 @@ pub enum Ending<'a> {
     NoMemory,
     /// Every request that one session may make was answered, and more input came.
     Budget,
+    /// No socket of the option file has control.
+    NoControl,
+    /// A dial, a read or a write of a socket failed.
+    SocketFailed,
+    /// The answer to a request to stop is another than that the daemon stops.
+    Unanswered,
 }
 
 impl<'a> Ending<'a> {
@@ -76,6 +84,19 @@ impl<'a> Ending<'a> {
         }
     }
 
+    /// How the program ends after a request to stop.
+    pub fn after_asking(asked: AskedToStop) -> Ending<'a>
+        ensures { ending_told result ≡ after_asking asked }
+    {
+        match asked {
+            AskedToStop::NoControl => Ending::NoControl,
+            AskedToStop::NoMemory => Ending::NoMemory,
+            AskedToStop::Failed => Ending::SocketFailed,
+            AskedToStop::Other => Ending::Unanswered,
+            AskedToStop::Stops => Ending::Done,
+        }
+    }
+
     /// The status of the process.
     pub fn status(self) -> u8
         ensures { result ≡ status_of (ending_told self.entry) }
@@ -94,6 +115,9 @@ impl<'a> Ending<'a> {
             Ending::Malformed(_) => 9,
             Ending::NoMemory => 10,
             Ending::Budget => 11,
+            Ending::NoControl => 4,
+            Ending::SocketFailed => 12,
+            Ending::Unanswered => 9,
         }
     }
 
@@ -151,6 +175,9 @@ impl<'a> Ending<'a> {
             },
             Ending::NoMemory => Line::of("munged: no memory\n"),
             Ending::Budget => Line::of("munged: 1048576 requests answered\n"),
+            Ending::NoControl => Line::of("munged: no control socket\n"),
+            Ending::SocketFailed => Line::of("munged: socket failed\n"),
+            Ending::Unanswered => Line::of("munged: no answer to stop\n"),
         }
     }
 }

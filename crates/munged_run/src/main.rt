@@ -1,8 +1,8 @@
 //! The program of munged: `munged session KEYFILE UID GID [SEEDFILE]` answers the requests of its
 //! standard input on its standard output; without a seed file nothing is sealed. `munged check
 //! CONFIG` looks over an option file and the files that it names. `munged exercise N NUMBER WORKERS`
-//! has workers answer the requests of a generated load. `munged --help` and `munged --version` say
-//! what it is.
+//! has workers answer the requests of a generated load. `munged stop CONFIG` asks the daemon that
+//! serves by an option file to stop. `munged --help` and `munged --version` say what it is.
 #![tactic(auto)]
 
 mod check;
@@ -19,19 +19,24 @@ mod maps;
 mod run;
 mod seed_file;
 mod session;
+mod stop;
+mod stop_request;
+mod stop_words;
 #[cfg(test)]
 mod tests;
 mod totals;
 
-use byte_io::{DiskFiles, MemClocks, MemHall, MemTicker, MemWire, StdSink, StdSource, SystemClock};
+use byte_io::{DiskFiles, Hall, MemClocks, MemTicker, StdSink, StdSource, SystemClock};
 use daemon::munged_daemon;
 use ending::Ending;
+use munge_types::NoMemory;
 use run::munged_run;
 use std::io::{BufReader, ErrorKind, Write};
 use std::process::ExitCode;
 use std::sync::Wait;
 use std::thread::Threads;
 use std::{env, io};
+use unix_io::UnixHall;
 
 /// What `munged --help` prints.
 const HELP: &str = "\
@@ -50,14 +55,19 @@ munged: seals credentials and opens them, each at most once
       connections that so many workers serve, each in a thread; then purges
       what has expired, and prints how many requests were accepted, how many
       were replays, how many had expired, and how many credentials are kept
+  munged stop CONFIG
+      asks the daemon that serves by the option file CONFIG to stop, over the
+      first of its sockets that has control
   munged --help
   munged --version
 
 Exit statuses: 0 the command was done, or the input of a session read to its
 end; 1 the words are no command; 2 a file could not be read; 3 a key or seed
-file of a wrong size; 4 an option, passwd or group file is refused; 5 the input,
-6 the output or 7 the clock failed; 9 what came is no request; 10 no memory;
-11 1048576 requests were answered. One line on standard error says which.
+file of a wrong size; 4 an option, passwd or group file is refused, or no socket
+has control; 5 the input, 6 the output or 7 the clock failed; 9 what came is no
+request, or not the answer that the daemon stops; 10 no memory; 11 1048576
+requests were answered; 12 a socket failed. One line on standard error says
+which.
 
 N is 1 to 50000, NUMBER up to 18446744073709551615, WORKERS 1 to 64.
 ";
@@ -134,12 +144,16 @@ fn answer(rt: HostRuntime, words: &[String]) -> ExitCode {
     ))
 }
 
-/// Runs the daemon. Nothing that it does yet asks for a socket, a clock or a tick: there are none.
-fn serve(threads: &(impl Threads + Wait + Sync), rt: HostRuntime, words: &[String]) -> ExitCode {
+/// Runs the daemon over the hall. Nothing that it does yet asks for a clock or a tick: there are
+/// none.
+fn serve(
+    threads: &(impl Threads + Wait + Sync),
+    rt: HostRuntime,
+    words: &[String],
+    hall: &mut impl Hall,
+) -> ExitCode {
     let alloc = rt.alloc();
     let mut files = DiskFiles::new(rt);
-    let wire = MemWire::new(alloc, Vec::new(alloc), Vec::new(alloc));
-    let mut hall = MemHall::new(Vec::new(alloc), wire, Vec::new(alloc));
     let mut out = StdSink::new(rt.stdout());
     let mut err = StdSink::new(rt.stderr());
     let mut clocks = MemClocks::new(alloc, Vec::new(alloc));
@@ -149,7 +163,7 @@ fn serve(threads: &(impl Threads + Wait + Sync), rt: HostRuntime, words: &[Strin
         alloc,
         words,
         &mut files,
-        &mut hall,
+        hall,
         &mut out,
         &mut err,
         &mut clocks,
@@ -169,5 +183,8 @@ fn main(rt: HostRuntime) -> ExitCode {
     if are_for_run(&words) {
         return answer(rt, words.as_slice());
     }
-    serve(&rt, rt, words.as_slice())
+    match UnixHall::new(rt, rt.alloc()) {
+        Ok(mut hall) => serve(&rt, rt, words.as_slice(), &mut hall),
+        Err(NoMemory) => end(&rt, Ending::NoMemory),
+    }
 }

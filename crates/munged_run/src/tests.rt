@@ -8,5 +8,6 @@ mod faults;
 mod fixture;
 mod requests;
 mod sealing;
+mod stop;
 mod turns;
 mod words;

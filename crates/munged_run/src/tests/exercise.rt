@@ -73,7 +73,9 @@ fn words_that_ask_for_no_load(rt: HostRuntime) -> Result<(), Fail> {
         "exercise\n1\n\n1",
         "Exercise\n1\n1\n1",
         "serve\nconfig",
-        "stop\nconfig",
+        "stop",
+        "stop\nconfig\nmore",
+        "Stop\nconfig",
     ];
     for words in table {
         assert_ends(&rt, rt.alloc(), words, 0, 1, "", "munged: bad words\n")?;
