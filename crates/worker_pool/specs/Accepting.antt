@@ -1,5 +1,5 @@
 -- What an acceptor leaves.
-use Rattle.std.specs.Prelude.{◌≡◌, ℕ, ◌<◌, ◌≤◌, ◌⊎◌, List, [], length, slice_index_or}
+use Rattle.std.specs.Prelude.{◌≡◌, ℕ, ◌<◌, ◌≤◌, ◌⊎◌, true, false, List, [], length, slice_index_or}
 use Rattle.std.specs.declared.option.Option.{Option}
 use Rattle.crossbeam_queue.specs.Passes.{IsPassOf, view}
 use Rattle.crossbeam_queue.specs.declared.array_queue.Doing.{Doing}
@@ -23,13 +23,16 @@ abbrev pub door_sight : {D C : Type 0} → (coming : D → Option (List C)) → 
 door_sight coming faults over = record { coming = coming; faults = faults; over = over }
 
 -- What became of a post of this number, whose acceptor has put these. Its door is over, or has
--- failed, and its count of faults did not fall.
+-- failed, which it says; its count of faults did not fall, and rose just where it failed.
 pub record PostRan {D C : Type 0} (doors : DoorSight D C) (number : ℕ) (old new : Post D)
     (put : List (Queued C)) : Type 0 where
   pub who_is : new.who ≡ old.who
   pub accepted : Accepted old.who number (doors.coming old.door) (doors.coming new.door) put
   pub ended : doors.over new.door ⊎ Rose (doors.faults old.door) (doors.faults new.door)
   pub faults_stay : doors.faults old.door ≤ doors.faults new.door
+  pub failed : new.failed ≡ true → Rose (doors.faults old.door) (doors.faults new.door)
+  pub sound : new.failed ≡ false
+      → doors.over new.door × (doors.faults new.door ≡ doors.faults old.door)
 
 -- What became of all posts, in the order in which they were given, whose acceptors have put these,
 -- a list for each

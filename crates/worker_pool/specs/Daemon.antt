@@ -184,8 +184,8 @@ pub record DaemonRan {D L C T B : Type 0} (sight : DaemonSight D L C T B) (given
   pub rest : List (Queued L)
   pub left_are : left ≡ map (λ q. q.waiting) rest
   pub same : IsPermutation (flat_map (λ l. l) puts) (flat_map taken_by_worker workers ++ rest)
-  -- so each connection that a telling door gave was kept once, or is left once, with its post and its
-  -- turn
+  -- so each connection that a telling door gave was kept once, or is left once, with its post and
+  -- its turn
   pub each_once : (p k : ℕ) (post : Post D) (conns after : List L) → p < length given.posts
       → sight.doors.coming (slice_index_or given.posts p post).door ≡ Some conns
       → sight.doors.coming (slice_index_or back.posts p post).door ≡ Some after

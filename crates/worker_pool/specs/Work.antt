@@ -25,8 +25,8 @@ sight_of left ends taken rings read_faults write_faults readings last given cloc
       faults = λ conn clock. faults_of (read_faults conn) (write_faults conn) (clock_faults clock);
     }
 
--- What a pool works on: how contracts see its connections and its clocks, the world, a seed for each
--- of its workers, and the jobs.
+-- What a pool works on: how contracts see its connections and its clocks, the world, a seed for
+-- each of its workers, and the jobs.
 pub record Work (L C : Type 0) : Type 0 where
   pub sight : Sight L C
   pub world : World

@@ -26,9 +26,15 @@ where
         holder.old holder.new }
 {
     let mut turn = 0u64;
+    holder.state.failed = false;
     for _ in rt.forever() {
-        let Next::Conn(conn) = holder.state.door.accept() else {
-            break;
+        let conn = match holder.state.door.accept() {
+            Next::Conn(conn) => conn,
+            Next::Over => break,
+            Next::Failed => {
+                holder.state.failed = true;
+                break;
+            }
         };
         let waiting = Waiting {
             post: holder.number,

@@ -11,6 +11,9 @@ pub struct Post<D: Drop> {
     pub who: Identity,
     /// The door.
     pub door: D,
+    /// Whether the door has failed, so that no more was asked of it. What is given here is not
+    /// looked at.
+    pub failed: bool,
 }
 
 /// A connection that a door gave.

@@ -1,10 +1,12 @@
 //! Pools over connections in memory, and two workers that have to run beside each other.
 
 mod daemon;
+mod faults;
 mod flags;
 mod late;
 mod many;
 mod moves;
+mod purges;
 
 use crate::{Done, Job, PoolEnd, pool_run};
 use byte_io::{MemClock, MemLink};

@@ -1,13 +1,15 @@
 //! A daemon's pool over memory. The credential comes from the option `--credential` of the
 //! repository's script of vectors, for a key file and a seed of 32 zeros and the caller 7, 7.
 
-ghost use Rattle.std.specs.Prelude.{◌≡◌, ◌≤◌, IfOk, length};
+ghost use Rattle.std.specs.Prelude.{◌≡◌, ◌≤◌, [], IfOk, length};
+ghost use Rattle.std.specs.List.{All};
 ghost use Rattle.byte_io.specs.MemDoor.{HasNoFault};
+ghost use Rattle.worker_pool.specs.Books.{Holds};
 
 use super::flags::FlagDoor;
 use super::{ENCODE, WHO, world_of};
-use crate::{DaemonPool, MemBook, Post, Tally, daemon_pool};
-use byte_io::{Door, MemClock, MemDoor, MemLink, MemTicker};
+use crate::{Book, DaemonPool, MemBook, Post, Tally, daemon_pool};
+use byte_io::{Door, MemClock, MemDoor, MemLink, MemTicker, Ticker};
 use replay_table::PlainReplay;
 use session_core::ServeEnd;
 use std::alloc::{AllocError, Global};
@@ -18,7 +20,7 @@ use std::thread::Threads;
 
 /// A decode request of `hello` sealed at 1000 with AES-128 and SHA-256, for anyone: the fields are
 /// `cipher=4 mac=5 payload=hello`.
-const REQUEST: &[u8] =
+pub(super) const REQUEST: &[u8] =
     b"\x4d\x01\x03\x00\x00\x00\x8fMUNGE:AwQFAADlal1AKL2GU7gZ0r0a7Y2gZdOW0dtIZnPPrjS6h3x2aomh8ZNQVH6NmOcaPRwS8mjed530PxWTNeODkFayJ+4ddvj+VTK0PF2qdcCP1XSD2VKm4Mz/XqmVx2UOiIvzOCA=:";
 
 pub(super) type Served<D> = DaemonPool<D, MemClock, PlainReplay, MemBook<<D as Door>::Conn>>;
@@ -35,9 +37,18 @@ pub(super) fn link(alloc: Global) -> Result<MemLink, AllocError>
     ))
 }
 
-/// A clock that gives 1000 three times.
-fn clock(alloc: Global) -> Result<MemClock, AllocError> {
-    Ok(MemClock::new(vec![in alloc; 1000, 1000, 1000]?, Vec::new(alloc)))
+/// A post with this door. It is given as one whose door has failed, which is not looked at.
+pub(super) fn post<D: Drop>(door: D) -> Post<D> {
+    Post {
+        who: WHO,
+        door,
+        failed: true,
+    }
+}
+
+/// A clock that gives this moment four times.
+fn clock(alloc: Global, moment: u32) -> Result<MemClock, AllocError> {
+    Ok(MemClock::new(vec![in alloc; moment; 4]?, Vec::new(alloc)))
 }
 
 /// Look-ups, those accepted, replayed and expired.
@@ -71,9 +82,9 @@ fn one_worker_serves_a_door_in_order(rt: HostRuntime) -> Result<(), Fail> {
     let end: Served<MemDoor> = daemon_pool(
         &rt,
         alloc,
-        vec![in alloc; Post { who: WHO, door }]?,
-        vec![in alloc; clock(alloc)?]?,
-        clock(alloc)?,
+        vec![in alloc; post(door)]?,
+        vec![in alloc; clock(alloc, 1000)?]?,
+        clock(alloc, 1000)?,
         &mut ticker,
         vec![in alloc; [0; 32]]?,
         vec![in alloc; MemBook::new(alloc)]?,
@@ -92,11 +103,49 @@ fn one_worker_serves_a_door_in_order(rt: HostRuntime) -> Result<(), Fail> {
     Ok(())
 }
 
-/// Serves the posts by two workers. The ticker is over, or fails at once.
+/// Serves the posts by two workers, at 1000, with a book for each. The purger's clock gives this
+/// moment.
+pub(super) fn serve_ticked<D, T, B, W>(
+    rt: &W,
+    alloc: Global,
+    posts: Vec<Post<D>>,
+    moment: u32,
+    ticker: &mut T,
+    books: Vec<B>,
+) -> Result<DaemonPool<D, MemClock, PlainReplay, B>, Fail>
+where
+    D: Door + Drop,
+    D::Conn: Drop,
+    T: Ticker,
+    B: Book<D::Conn> + Drop,
+    W: Threads + Wait + Sync,
+    requires posts { (1 ≤ length posts.items) × (length posts.items ≤ 64) }
+    requires books { length books.items ≡ 2 }
+    requires empty_books { All (λ book. Holds (B.kept book) []) books.items }
+{
+    let world = world_of(&[0; 32])?;
+    Ok(daemon_pool(
+        rt,
+        alloc,
+        posts,
+        vec![in alloc; clock(alloc, 1000)?, clock(alloc, 1000)?]?,
+        clock(alloc, moment)?,
+        ticker,
+        vec![in alloc; [0; 32], [1; 32]]?,
+        books,
+        4,
+        PlainReplay::new(alloc),
+        &world,
+    )?)
+}
+
+/// Serves the posts by two workers. The ticker gives so many Due answers, all at once, and those of
+/// its calls fail that have these numbers.
 pub(super) fn serve_by_two<D, W>(
     rt: &W,
     alloc: Global,
     posts: Vec<Post<D>>,
+    due: u32,
     tick_fails: &[u32],
 ) -> Result<Served<D>, Fail>
 where
@@ -105,21 +154,9 @@ where
     W: Threads + Wait + Sync,
     requires posts { (1 ≤ length posts.items) × (length posts.items ≤ 64) }
 {
-    let world = world_of(&[0; 32])?;
-    let mut ticker = MemTicker::new(0, tick_fails.to_vec(alloc)?);
-    Ok(daemon_pool(
-        rt,
-        alloc,
-        posts,
-        vec![in alloc; clock(alloc)?, clock(alloc)?]?,
-        clock(alloc)?,
-        &mut ticker,
-        vec![in alloc; [0; 32], [1; 32]]?,
-        vec![in alloc; MemBook::new(alloc), MemBook::new(alloc)]?,
-        4,
-        PlainReplay::new(alloc),
-        &world,
-    )?)
+    let mut ticker = MemTicker::new(due, tick_fails.to_vec(alloc)?);
+    let books = vec![in alloc; MemBook::new(alloc), MemBook::new(alloc)]?;
+    serve_ticked(rt, alloc, posts, 1000, &mut ticker, books)
 }
 
 #[test]
@@ -127,14 +164,8 @@ fn two_workers_keep_both(rt: HostRuntime) -> Result<(), Fail> {
     let alloc = rt.alloc();
     let door = MemDoor::new(vec![in alloc; link(alloc)?, link(alloc)?]?, Vec::new(alloc));
     let none = MemDoor::new(Vec::new(alloc), Vec::new(alloc));
-    let posts = vec![in alloc;
-        Post { who: WHO, door },
-        Post {
-            who: WHO,
-            door: none
-        },
-    ]?;
-    let end = serve_by_two(&rt, alloc, posts, &[])?;
+    let posts = vec![in alloc; post(door), post(none)]?;
+    let end = serve_by_two(&rt, alloc, posts, 0, &[])?;
     assert_eq!(rt; counts(&end.tally), (2, 1, 1, 0));
     assert_eq!(rt; (end.closed.length, end.left.len(), end.worn), (2, 0, None));
     let (mut turns, mut places) = (Vec::new(alloc), Vec::new(alloc));
@@ -153,7 +184,7 @@ fn two_workers_keep_both(rt: HostRuntime) -> Result<(), Fail> {
 }
 
 /// How the connections of this post and turn ended.
-fn ends_of<L: Drop>(
+pub(super) fn ends_of<L: Drop>(
     alloc: Global,
     books: &[MemBook<L>],
     post: u32,
@@ -170,67 +201,34 @@ fn ends_of<L: Drop>(
     Ok(ends)
 }
 
+/// Post and turn of a connection, whether it was answered, and whether it gave nothing.
+pub(super) type Turn = (u32, u64, bool, bool);
+
+/// The connections in these books, in order.
+pub(super) fn turns_of(alloc: Global, books: &[MemBook<MemLink>]) -> Result<Vec<Turn>, AllocError> {
+    let mut turns = Vec::new(alloc);
+    for book in books {
+        for one in book.handled() {
+            let how = one.served.how;
+            let (done, quiet) = (how == ServeEnd::Done, how == ServeEnd::Quiet);
+            turns.push((one.post, one.turn, done, quiet))?;
+        }
+    }
+    turns.sort_unstable();
+    Ok(turns)
+}
+
 #[test]
 fn both_must_serve(rt: HostRuntime) -> Result<(), Fail> {
     let alloc = rt.alloc();
     let one = AtomicBool::new(false);
     let other = AtomicBool::new(false);
     let door = FlagDoor::new(alloc, &one, &other, ENCODE);
-    let end = serve_by_two(&rt, alloc, vec![in alloc; Post { who: WHO, door }]?, &[])?;
+    let posts = vec![in alloc; post(door)]?;
+    let end = serve_by_two(&rt, alloc, posts, 0, &[])?;
     for turn in 0..2 {
         let ends = ends_of(alloc, &end.books, 0, turn)?;
         assert_eq!(rt; ends.as_slice(), [ServeEnd::Done].as_slice());
-    }
-    Ok(())
-}
-
-/// One connection that was served to its end.
-const DONE: &[ServeEnd] = &[ServeEnd::Done];
-
-/// What fails, by the numbers of the calls that do: accepts of the first door, ticks, and reads and
-/// writes of its first connection. Then how its two connections ended, and how many look-ups were
-/// made and how many of them replayed.
-type Case<'a> = ([&'a [u32]; 4], [&'a [ServeEnd]; 2], u64, u64);
-
-/// A door with two connections, of which the first fails so, and a second door with one.
-fn posts_of(alloc: Global, fails: [&[u32]; 4]) -> Result<Vec<Post<MemDoor>>, AllocError>
-    ensures { IfOk result (λ posts. length posts.items ≡ 2) }
-{
-    let [accepts, _, reads, writes] = fails;
-    let first = MemLink::new(
-        alloc,
-        REQUEST.to_vec(alloc)?,
-        reads.to_vec(alloc)?,
-        writes.to_vec(alloc)?,
-    );
-    let door = MemDoor::new(vec![in alloc; first, link(alloc)?]?, accepts.to_vec(alloc)?);
-    let other = MemDoor::new(vec![in alloc; link(alloc)?]?, Vec::new(alloc));
-    Ok(vec![in alloc;
-        Post { who: WHO, door },
-        Post {
-            who: WHO,
-            door: other
-        },
-    ]?)
-}
-
-#[test]
-fn faults_end_what_they_touch(rt: HostRuntime) -> Result<(), Fail> {
-    let alloc = rt.alloc();
-    let table: [Case<'_>; 5] = [
-        ([&[1], &[], &[], &[]], [&[], &[]], 1, 0),
-        ([&[2], &[], &[], &[]], [DONE, &[]], 2, 1),
-        ([&[], &[1], &[], &[]], [DONE, DONE], 3, 2),
-        ([&[], &[], &[1], &[]], [&[ServeEnd::ReadFault], DONE], 2, 1),
-        ([&[], &[], &[], &[1]], [&[ServeEnd::WriteFault], DONE], 3, 2),
-    ];
-    for (fails, [first, second], looked_up, replayed) in table {
-        let end = serve_by_two(&rt, alloc, posts_of(alloc, fails)?, fails[1])?;
-        assert_eq!(rt; end.ticker_failed, fails[1].len() == 1);
-        assert_eq!(rt; counts(&end.tally), (looked_up, 1, replayed, 0));
-        for (post, turn, want) in [(0, 0, first), (0, 1, second), (1, 0, DONE)] {
-            assert_eq!(rt; ends_of(alloc, &end.books, post, turn)?.as_slice(), want);
-        }
     }
     Ok(())
 }

@@ -11,8 +11,8 @@ use std::thread;
 /// How often the other's flag is looked at.
 const TURNS: u32 = 1_000_000;
 
-/// A connection that raises its flag at each read, and gives its bytes only once the other's flag is
-/// up. It tells nothing of its bytes.
+/// A connection that raises its flag at each read, and gives its bytes only once the other's flag
+/// is up. It tells nothing of its bytes.
 #[derive(Drop)]
 pub(super) struct FlagLink<'a> {
     mine: &'a AtomicBool,

@@ -2,9 +2,7 @@
 
 ghost use Rattle.std.specs.Prelude.{◌≡◌, [], Some};
 
-use super::WHO;
-use super::daemon::{link, serve_by_two};
-use crate::Post;
+use super::daemon::{link, post, serve_by_two};
 use byte_io::{Door, MemDoor, MemLink, Next};
 use std::test::Fail;
 use std::thread;
@@ -49,7 +47,8 @@ fn a_pool_sleeps_while_its_door_waits(rt: HostRuntime) -> Result<(), Fail> {
     let door = LateDoor { clock: &rt, door };
     let start = Instant::now(&rt)?;
     let before = rt.process_cpu_time()?;
-    let end = serve_by_two(&rt, alloc, vec![in alloc; Post { who: WHO, door }]?, &[])?;
+    let posts = vec![in alloc; post(door)]?;
+    let end = serve_by_two(&rt, alloc, posts, 0, &[])?;
     let used = rt.process_cpu_time()?.saturating_sub(before);
     assert_eq!(rt; end.tally.presented, 1);
     assert!(rt; start.elapsed(&rt)? >= Duration::from_millis(WAIT));

@@ -1,4 +1,4 @@
-use Rattle.std.proofs.Common.{List, sym, ap, refl, subst, arith}
+use Rattle.std.proofs.Common.{List, sym, ap, refl, subst, ◌∙◌}
 use Rattle.crossbeam_queue.specs.Passes.{view}
 use Rattle.byte_io.specs.Doors.{Accepts}
 use Rattle.byte_io.specs.declared.door.Next.TheVariants.{Conn}
@@ -22,7 +22,8 @@ loop-init g c =
       accepting = subst (λ (l : List T). Accepting held.state.who held.number 0 coming coming l)
           (sym (ap (λ (v : Ledger T). v.put) new))
           (accepting_none held.state.who held.number coming);
-      faults_stay = omega arith;
+      faults_same = refl;
+      not_failed = refl;
     }
 
 pub loop-preserved : goal.loop-preserved
@@ -46,5 +47,6 @@ loop-preserved g c =
           c.saturating_add-turn.result first now new (view old.pass).put c.in-Conn.conn
           c.saturating_add-turn.ensures c.accept.ensures.few told i.accepting
           old.state.who old.number (view c.put.new.pass).put i.who_is i.number_is put.2;
-      faults_stay = (let a = i.faults_stay in let b = c.accept.ensures.faults_stay in omega arith);
+      faults_same = c.in-Conn.ensures.counted ∙ i.faults_same;
+      not_failed = i.not_failed;
     }

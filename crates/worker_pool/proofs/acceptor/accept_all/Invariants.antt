@@ -1,4 +1,4 @@
-use Rattle.std.proofs.Common.{◌≡◌, ◌≤◌, []}
+use Rattle.std.proofs.Common.{◌≡◌, false, []}
 use Rattle.crossbeam_queue.specs.Passes.{view, IsPassOf}
 use Rattle.worker_pool.specs.Giving.{Accepting}
 use Rattle.worker_pool.proofs.acceptor.accept_all.Given as goal
@@ -13,6 +13,7 @@ invariant-loop g l = record {
   accepting : Accepting l.fn.holder.state.who l.fn.holder.number l.turn
       (g.D.Door.coming l.fn.holder.state.door) (g.D.Door.coming l.holder.state.door)
       (view l.holder.pass).put;
-  faults_stay : g.D.Door.door_faults l.fn.holder.state.door
-      ≤ g.D.Door.door_faults l.holder.state.door;
+  faults_same : g.D.Door.door_faults l.holder.state.door
+      ≡ g.D.Door.door_faults l.fn.holder.state.door;
+  not_failed : l.holder.state.failed ≡ false;
 }
