@@ -1,8 +1,6 @@
 -- What the command `check` comes to, from what it called.
-use Rattle.std.proofs.Common.{◌≡◌, ◌≢◌, ℕ, ◌<◌, Bool, List, [], ◌++◌, length, take, drop, Option, Some, refl, sym, ap, ◌∙◌, subst, arith, take-append-drop}
+use Rattle.std.proofs.Common.{◌≡◌, ◌≢◌, ℕ, ◌<◌, List, [], ◌++◌, length, take, drop, Option, Some, refl, sym, ap, ◌∙◌, arith, take-append-drop}
 use Rattle.std.proofs.lemmas.List.{append-nil, length-take}
-use Rattle.group_map.specs.FirstBadLine.{first_bad}
-use Rattle.group_map.specs.Lines.{lines_of}
 use Rattle.session_core.specs.SessionRan.{IsProperPrefix}
 use Rattle.option_file.specs.Refusals.{first_refusal}
 use Rattle.option_file.specs.declared.refused.OptionRefused.{OptionRefused}
@@ -10,20 +8,7 @@ use Rattle.option_file.specs.declared.refused.OptionRefused.TheVariants as refus
 use Rattle.byte_io.specs.Files.{ReadsFile}
 use Rattle.munged_run.specs.Check.{GivesNoOptions, options_room}
 use Rattle.munged_run.specs.Check as gives
-use Rattle.munged_run.specs.Ending.{Ending, ending_by}
-use Rattle.munged_run.specs.MapFile.{RefusesMap, RefusesNamed}
-
--- an empty file has no bad line
-pub no_bad_line : (is_right : List ℕ → Bool) (line : ℕ) → first_bad is_right [] ≡ Some line → ⊥
-unfolding lines_of
-no_bad_line is_right line is = cc
-
--- a file that is named and refused
-pub refuses_named : (is_right : List ℕ → Bool) (files : Option (List (List ℕ × List ℕ)))
-    (named : Option (List ℕ)) (name : List ℕ) (how : Ending) → named ≡ Some name
-    → RefusesMap is_right files name how → RefusesNamed is_right files named how
-refuses_named is_right files named name how is refuses =
-    subst (λ n. RefusesNamed is_right files n how) (sym is) refuses
+use Rattle.munged_files.specs.Ending.{ending_by}
 
 -- fewer bytes than all are a proper prefix
 pub proper_front : (n : ℕ) (whole : List ℕ) → n < length whole → IsProperPrefix (take n whole) whole

@@ -11,16 +11,7 @@ use Rattle.munge_types.specs.declared.history.Verdict.TheVariants.{Accepted, Exp
 use Rattle.worker_pool.specs.Tally.{IsTallyOf, is_look_up, is_said, times_said}
 use Rattle.worker_pool.specs.declared.tally.Tally.{Tally}
 use Rattle.munged_run.proofs.Counting.{count_by-append, count_by-same}
-
-range_push : (a n : ℕ) → range_with_len a (suc n) ≡ range_with_len a n ++ (a + n) ∷ []
-range_push a zero = let same : a ≡ a + 0 = omega arith in ap (λ m. m ∷ []) same
-range_push a (suc n) =
-    let same : (a + 1) + n ≡ a + suc n = omega arith in
-    ap (λ l. a ∷ l) (range_push (a + 1) n ∙ ap (λ m. range_with_len (a + 1) n ++ m ∷ []) same)
-
--- one more number from 0 on
-pub range_more : (n : ℕ) → range_with_len 0 (suc n) ≡ range_with_len 0 n ++ n ∷ []
-range_more n = let same : 0 + n ≡ n = omega arith in range_push 0 n ∙ ap (λ m. range_with_len 0 n ++ m ∷ []) same
+use Rattle.munged_run.proofs.Ranges.{range_more}
 
 get_front : {A : Type 0} (xs ys : List A) (i : ℕ) → i < length xs → slice_get (xs ++ ys) i ≡ slice_get xs i
 get_front [] ys i less = absurd (omega arith)

@@ -16,15 +16,16 @@ use Rattle.session_core.specs.declared.end.HowEnded.{HowEnded}
 use Rattle.session_core.specs.declared.end.HowEnded.TheVariants as how
 use Rattle.munged_run.specs.CommandLine.{AskedSession, command_of}
 use Rattle.munged_run.specs.CommandLine as command
-use Rattle.munged_run.specs.Ending.{Ending, after_session, status_of}
-use Rattle.munged_run.specs.Ending as ending
-use Rattle.munged_run.specs.Faults.{FaultOf}
-use Rattle.munged_run.specs.KeyFile.{GivesNoKey, IsKey, key_room}
-use Rattle.munged_run.specs.KeyFile as no_key
+use Rattle.munged_files.specs.Ending.{Ending, status_of}
+use Rattle.munged_run.specs.AfterSession.{after_session}
+use Rattle.munged_files.specs.Ending as ending
+use Rattle.munged_files.specs.Faults.{FaultOf}
+use Rattle.munged_files.specs.KeyFile.{GivesNoKey, IsKey, key_room}
+use Rattle.munged_files.specs.KeyFile as no_key
 use Rattle.munged_run.specs.Program.{Answered, Given, SessionCame, answered, session_under, unkeyed, unseeded}
-use Rattle.munged_run.specs.SeedFile.{GivesNoSeed, IsSeedOf, TellsSeed, seed_size}
-use Rattle.munged_run.specs.SeedFile as no_seed
-use Rattle.munged_run.specs.Status.{success, want_of_memory}
+use Rattle.munged_files.specs.SeedFile.{GivesNoSeed, IsSeedOf, TellsSeed, seed_size}
+use Rattle.munged_files.specs.SeedFile as no_seed
+use Rattle.munged_files.specs.Status.{success, want_of_memory}
 use Rattle.munged_run.specs.WholeRequests.{AnswersAll, AnswersWhole, WholeRequests, WholeSession}
 use Rattle.munged_run.proofs.StreamOfRequests.{AllFit, Continues, FrameLaws, continues, never_malformed}
 

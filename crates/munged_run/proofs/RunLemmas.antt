@@ -1,5 +1,5 @@
 -- What a session comes to, from what the program called.
-use Rattle.std.proofs.Common.{◌≡◌, ℕ, ◌≤◌, inl, inr, List, [], length, Option, Some, option_map, ap, subst}
+use Rattle.std.proofs.Common.{◌≡◌, ℕ, List, [], Option, subst}
 use Rattle.munge_types.specs.StandsFor.{Remembered}
 use Rattle.munge_types.specs.declared.identity.Identity.{Identity}
 use Rattle.munge_types.specs.declared.settings.Settings.{Settings}
@@ -8,21 +8,11 @@ use Rattle.session_core.specs.Things.{Outside, things_of}
 use Rattle.session_core.specs.declared.end.SessionEnd.{SessionEnd}
 use Rattle.load_maker.specs.Load.{IsUsual}
 use Rattle.munged_run.specs.CommandLine.{AskedSession, caller_of}
-use Rattle.munged_run.specs.Ending.{Ending, after_session}
-use Rattle.munged_run.specs.KeyFile.{HoldsKey, IsKey}
+use Rattle.munged_files.specs.Ending.{Ending}
+use Rattle.munged_run.specs.AfterSession.{after_session}
+use Rattle.munged_files.specs.KeyFile.{HoldsKey}
 use Rattle.munged_run.specs.Program.{Answered, nothing_remembered}
-use Rattle.munged_run.specs.SeedFile.{GivesNoSeed, IsSeedOf}
-use Rattle.munged_run.specs.SeedFile as seeds
-use Rattle.munged_run.specs.Unread.{IsUnread}
-
--- bytes of another size are no key
-pub not_a_key : (bytes : List ℕ) → ¬ ((32 ≤ length bytes) × (length bytes ≤ 1024)) → ¬ IsKey bytes
-not_a_key bytes unfit key = unfit (key.not_short, key.not_long)
-
--- the name that an option of a borrowed text tells
-pub name_told : {T : Type 0} (now : T → List ℕ) (named : Option T) (name : T)
-    → named ≡ Some name → option_map now named ≡ Some (now name)
-name_told now named name is = ap (option_map now) is
+use Rattle.munged_files.specs.SeedFile.{IsSeedOf}
 
 -- a new replay state remembers nothing
 pub new_is : (state : Remembered) → state.floor ≡ 0 → state.pairs ≡ []
@@ -75,10 +65,3 @@ session_answered files asked before after how key seed settings who end old new 
           }) end (things_of before s) (things_of after new)) (new_is old floor pairs) ran);
       how_is = how_is;
     }
-
--- how the program ends without the bytes of a seed file that is named
-pub seed_unread : (files : Option (List (List ℕ × List ℕ))) (named : Option (List ℕ))
-    (name : List ℕ) (how : Ending) → named ≡ Some name → IsUnread name how
-    → GivesNoSeed files named how
-seed_unread files named name how is (inl fault) = seeds.unread name is fault
-seed_unread files named name how is (inr none) = seeds.no_memory name is none

@@ -1,7 +1,8 @@
 -- A request to stop that meets the right answer, or another.
-use Rattle.std.proofs.Common.{◌≡◌, ◌≢◌, ◌∙◌, ℕ, ◌+◌, ◌<◌, ◌≤◌, ◌⊎◌, inl, inr, Bool, true, false, if◌then◌else◌, List, [], ◌∷◌, ◌++◌, length, take, Option, None, Some, refl, sym, ap, subst, arith}
+use Rattle.std.proofs.Common.{◌≡◌, ◌≢◌, ◌∙◌, ℕ, ◌<◌, ◌≤◌, ◌⊎◌, inl, inr, Bool, true, false, bytes_eq, codes, if◌then◌else◌, List, [], ◌∷◌, ◌++◌, length, take, Option, None, Some, refl, sym, ap, subst, arith}
 use Rattle.std.proofs.lemmas.Bool.{ltb-false}
-use Rattle.std.proofs.lemmas.List.{append-nil, length-append, length-take, nil_from_length, take_all}
+use Rattle.std.proofs.lemmas.Slice.Eq.{bytes_eq-Decides}
+use Rattle.std.proofs.lemmas.List.{append-nil, length-append, length-take, take_all}
 use Rattle.std.proofs.Math.Seq.{take-append_seam}
 use Rattle.std.specs.Io.KnownBytes.{Appends, Consumes, IsAtEnd}
 use Rattle.byte_io.specs.Files.{file_of, ReadsFile}
@@ -14,18 +15,20 @@ use Rattle.option_file.specs.declared.refused.OptionRefused.{OptionRefused}
 use Rattle.worker_pool.specs.declared.tally.Tally.{Tally}
 use Rattle.munged_run.specs.Check.{GivesNoOptions, HoldsOptions, options_room}
 use Rattle.munged_run.specs.Check as gives
-use Rattle.munged_run.specs.Daemon.{DaemonCame, Output}
+use Rattle.munged_run.specs.Daemon.{DaemonCame}
 use Rattle.munged_run.specs.Daemon as daemon
-use Rattle.munged_run.specs.Ending.{Ending, status_of}
-use Rattle.munged_run.specs.Ending as ending
+use Rattle.munged_files.specs.Ending.{Ending, status_of}
+use Rattle.munged_files.specs.Ending as ending
 use Rattle.munged_run.specs.ExerciseWords.{exercise_of}
+use Rattle.munged_run.specs.Output.{Output}
 use Rattle.munged_run.specs.Program.{Given}
 use Rattle.munged_run.specs.Stop.{StopAsked, StopCame, StoppedBy, after_asking, control_path, stop_answer, stop_request}
 use Rattle.munged_run.specs.Stop as stop
-use Rattle.munged_run.specs.Status.{bad_message, failed_socket, success, unread_file, want_of_memory}
+use Rattle.munged_run.specs.ServeWords.{serve_of}
+use Rattle.munged_files.specs.Status.{bad_message, failed_socket, success, unread_file, want_of_memory}
 use Rattle.munged_run.specs.StopWords.{stop_of}
 use Rattle.munged_run.specs.Stoppable.{BeginsWithAnswer, CanStop, MeetsAnother, next_reply}
-use Rattle.munged_run.specs.Wire.{Dialled, ReplyEnded, WireFailed, WireSeen}
+use Rattle.munged_run.specs.Wire.{Dialled, WireFailed, WireSeen}
 use Rattle.munged_run.specs.declared.exercise_words.AskedExercise.{AskedExercise}
 use Rattle.munged_run.specs.declared.stop_request.AskedToStop.{AskedToStop}
 use Rattle.munged_run.proofs.Completeness.{read_front}
@@ -37,6 +40,27 @@ apart [] config is = refl
 apart (name ∷ []) config is = refl
 apart (name ∷ one ∷ []) config is = refl
 apart (name ∷ one ∷ two ∷ words) config is = absurd (cc)
+
+-- a word that is compared is that word
+is_named : (b : Bool) (one config : List ℕ) → (if b then Some one else None) ≡ Some config → b ≡ true
+is_named true one config is = refl
+is_named false one config is = absurd (cc)
+
+is_word : (name word one config : List ℕ)
+    → (if bytes_eq name word then Some one else None) ≡ Some config → name ≡ word
+is_word name word one config is =
+    (bytes_eq-Decides name word).0 (is_named (bytes_eq name word) one config is)
+
+-- no words ask that a daemon stops and that one serves
+pub not_stop_and_serve : (words : List (List ℕ)) (config other : List ℕ)
+    → stop_of words ≡ Some config → serve_of words ≡ Some other → ⊥
+not_stop_and_serve [] config other stops serves = absurd (cc)
+not_stop_and_serve (name ∷ []) config other stops serves = absurd (cc)
+not_stop_and_serve (name ∷ one ∷ []) config other stops serves =
+    let same : codes "stop" ≡ codes "serve" =
+    sym (is_word name (codes "stop") one config stops) ∙ is_word name (codes "serve") one other serves in
+    cc
+not_stop_and_serve (name ∷ one ∷ two ∷ words) config other stops serves = absurd (cc)
 
 -- ---- what was read of a told reply
 
@@ -97,7 +121,7 @@ not_too_long : (text : List ℕ) → first_refusal text ≡ None → length text
 not_too_long text accepted = ltb-false file_limit (length text) (first_none _ _ _ _ accepted)
 
 -- it is read whole
-whole_text : (files : Option (List (List ℕ × List ℕ))) (told : List (List ℕ × List ℕ))
+pub whole_text : (files : Option (List (List ℕ × List ℕ))) (told : List (List ℕ × List ℕ))
     (config bytes text : List ℕ) → files ≡ Some told → file_of told config ≡ Some text
     → first_refusal text ≡ None → ReadsFile files config options_room bytes → bytes ≡ text
 whole_text files told config bytes text files_told text_told accepted reads =
@@ -172,19 +196,21 @@ came_well given before after can untouched how was_read sound (stop.by_options s
 
 -- a request to stop that meets the right answer
 pub stop_well : (given : Given) (tally : Tally) (kept : ℕ) (silent untouched : Type 0)
-    (out : Output) (before after : WireSeen) (how : Ending) → CanStop given before
+    (serves : List ℕ → Ending → Type 0) (out : Output) (before after : WireSeen) (how : Ending) → CanStop given before
     → ((name : List ℕ) → how ≡ ending.unread name → ⊥) → (how ≡ ending.socket_failed → ⊥)
-    → DaemonCame given tally kept silent untouched out before after how → Well how
-stop_well given tally kept silent untouched out before after how can was_read sound (daemon.no_command no_load none a b c is) =
+    → DaemonCame given tally kept silent untouched serves out before after how → Well how
+stop_well given tally kept silent untouched serves out before after how can was_read sound (daemon.no_command no_load none no_serve a b c is) =
     let both : ◌≡◌ {A = Option (List ℕ)} None (Some can.config) = sym none ∙ can.asked_for in absurd (cc)
-stop_well given tally kept silent untouched out before after how can was_read sound (daemon.exercise asked is a came) =
+stop_well given tally kept silent untouched serves out before after how can was_read sound (daemon.exercise asked is a came) =
     let both : ◌≡◌ {A = Option AskedExercise} None (Some asked) =
     sym (apart given.words can.config can.asked_for) ∙ is in absurd (cc)
-stop_well given tally kept silent untouched out before after how can was_read sound (daemon.stop config asks a b came) =
+stop_well given tally kept silent untouched serves out before after how can was_read sound (daemon.stop config asks a b came) =
     let both : Some config ≡ Some can.config = sym asks ∙ can.asked_for in
     let same : config ≡ can.config = cc in
     came_well given before after can untouched how was_read sound
     (subst (λ c. StopCame given.files c untouched before after how) same came)
+stop_well given tally kept silent untouched serves out before after how can was_read sound (daemon.serve config asks same came) =
+    absurd (not_stop_and_serve given.words can.config config can.asked_for asks)
 
 -- ---- another answer
 
@@ -205,6 +231,15 @@ sent_all before after it bytes now =
     omega (arith, ap length same, length-append it.taken bytes, length-append it.taken stop_request)
 
 -- nothing went out
+-- words that ask that a daemon stops do not ask that one serves
+pub stop_no_serve : (words : List (List ℕ)) (config : List ℕ) → stop_of words ≡ Some config
+    → serve_of words ≡ None
+stop_no_serve words config stops = by (serve_of words) refl
+  where
+    by : (asked : Option (List ℕ)) → serve_of words ≡ asked → serve_of words ≡ None
+    by None is = is
+    by (Some other) is = absurd (not_stop_and_serve words config other stops is)
+
 pub none_sent : (before after : WireSeen) → after.taken ≡ before.taken → MeetsAnother before after → ⊥
 none_sent before after stays it =
     let now = stays ∙ it.taken_told ∙ ap (λ l. Some l) (sym (append-nil it.taken)) in
@@ -233,38 +268,40 @@ asked_another path untouched before after how it stays sound (stop.stops dialled
 
 -- a request to stop that went out whole and meets another answer
 pub stop_another : (given : Given) (tally : Tally) (kept : ℕ) (silent untouched : Type 0)
-    (out : Output) (before after : WireSeen) (how : Ending) → MeetsAnother before after
+    (serves : List ℕ → Ending → Type 0) (out : Output) (before after : WireSeen) (how : Ending) → MeetsAnother before after
     → (untouched → after.taken ≡ before.taken) → (how ≡ ending.socket_failed → ⊥)
-    → DaemonCame given tally kept silent untouched out before after how → how ≡ ending.unanswered
-stop_another given tally kept silent untouched out before after how it stays sound (daemon.no_command a b c same d is) =
+    → DaemonCame given tally kept silent untouched serves out before after how → how ≡ ending.unanswered
+stop_another given tally kept silent untouched serves out before after how it stays sound (daemon.no_command a b no_serve c same d is) =
     absurd (none_sent before after (stays same) it)
-stop_another given tally kept silent untouched out before after how it stays sound (daemon.exercise asked is same came) =
+stop_another given tally kept silent untouched serves out before after how it stays sound (daemon.exercise asked is same came) =
     absurd (none_sent before after (stays same) it)
-stop_another given tally kept silent untouched out before after how it stays sound (daemon.stop config asks a b (stop.no_options same none)) =
+stop_another given tally kept silent untouched serves out before after how it stays sound (daemon.stop config asks a b (stop.no_options same none)) =
     absurd (none_sent before after (stays same) it)
-stop_another given tally kept silent untouched out before after how it stays sound (daemon.stop config asks a b (stop.by_options said holds asked (stop.no_control same none how_is) is)) =
+stop_another given tally kept silent untouched serves out before after how it stays sound (daemon.stop config asks a b (stop.by_options said holds asked (stop.no_control same none how_is) is)) =
     absurd (none_sent before after (stays same) it)
-stop_another given tally kept silent untouched out before after how it stays sound (daemon.stop config asks a b (stop.by_options said holds asked (stop.asked path controls came) is)) =
+stop_another given tally kept silent untouched serves out before after how it stays sound (daemon.stop config asks a b (stop.by_options said holds asked (stop.asked path controls came) is)) =
     is ∙ asked_another path untouched before after asked it stays (λ failed. sound (is ∙ failed)) came
+stop_another given tally kept silent untouched serves out before after how it stays sound (daemon.serve config asks same came) =
+    absurd (none_sent before after (ap (λ (seen : WireSeen). seen.taken) same) it)
 
 -- ---- both, by the status
 
 -- what came of the words, and what the status tells of faults
 pub record Known (given : Given) (tally : Tally) (kept : ℕ) (silent untouched : Type 0)
-    (out : Output) (before after : WireSeen) (file_failed : Type 0) (status : ℕ) : Type 0 where
+    (serves : List ℕ → Ending → Type 0) (out : Output) (before after : WireSeen) (file_failed : Type 0) (status : ℕ) : Type 0 where
   pub how : Ending
-  pub came : DaemonCame given tally kept silent untouched out before after how
+  pub came : DaemonCame given tally kept silent untouched serves out before after how
   pub number : status ≡ status_of how
   pub file : status ≡ unread_file → file_failed
   pub wire : status ≡ failed_socket → WireFailed before after
 
 pub complete_by : (given : Given) (tally : Tally) (kept : ℕ) (silent untouched : Type 0)
-    (out : Output) (before after : WireSeen) (file_failed : Type 0) (status : ℕ)
-    → Known given tally kept silent untouched out before after file_failed status
+    (serves : List ℕ → Ending → Type 0) (out : Output) (before after : WireSeen) (file_failed : Type 0) (status : ℕ)
+    → Known given tally kept silent untouched serves out before after file_failed status
     → CanStop given before → ¬ file_failed → ¬ WireFailed before after
     → (status ≡ success) ⊎ (status ≡ want_of_memory)
-complete_by given tally kept silent untouched out before after file_failed status it can no_file no_wire =
-    elim (stop_well given tally kept silent untouched out before after it.how can
+complete_by given tally kept silent untouched serves out before after file_failed status it can no_file no_wire =
+    elim (stop_well given tally kept silent untouched serves out before after it.how can
     (λ name is. no_file (it.file (it.number ∙ ap status_of is)))
     (λ is. no_wire (it.wire (it.number ∙ ap status_of is))) it.came) [
       | inl is ↦ inl (it.number ∙ ap status_of is)
@@ -272,12 +309,12 @@ complete_by given tally kept silent untouched out before after file_failed statu
     ]
 
 pub another_by : (given : Given) (tally : Tally) (kept : ℕ) (silent untouched : Type 0)
-    (out : Output) (before after : WireSeen) (file_failed : Type 0) (status : ℕ)
-    → Known given tally kept silent untouched out before after file_failed status
+    (serves : List ℕ → Ending → Type 0) (out : Output) (before after : WireSeen) (file_failed : Type 0) (status : ℕ)
+    → Known given tally kept silent untouched serves out before after file_failed status
     → (untouched → after.taken ≡ before.taken) → MeetsAnother before after
     → ¬ WireFailed before after → status ≡ bad_message
-another_by given tally kept silent untouched out before after file_failed status it stays meets no_wire =
-    it.number ∙ ap status_of (stop_another given tally kept silent untouched out before after it.how
+another_by given tally kept silent untouched serves out before after file_failed status it stays meets no_wire =
+    it.number ∙ ap status_of (stop_another given tally kept silent untouched serves out before after it.how
     meets stays (λ is. no_wire (it.wire (it.number ∙ ap status_of is))) it.came)
 
 -- no words ask for a load and for a stop
@@ -291,3 +328,11 @@ not_both (a ∷ b ∷ c ∷ d ∷ e ∷ words) asked config load stop = absurd (
 
 pub cannot_stop : (given : Given) (seen : WireSeen) (asked : AskedExercise) → exercise_of given.words ≡ Some asked → CanStop given seen → ⊥
 cannot_stop given seen asked load can = not_both given.words asked can.config load can.asked_for
+
+-- no words ask for a load and that a daemon serves
+pub not_load_and_serve : (words : List (List ℕ)) (asked : AskedExercise) (config : List ℕ)
+    → exercise_of words ≡ Some asked → serve_of words ≡ Some config → ⊥
+not_load_and_serve [] asked config load serves = absurd (cc)
+not_load_and_serve (a ∷ []) asked config load serves = absurd (cc)
+not_load_and_serve (a ∷ b ∷ []) asked config load serves = absurd (cc)
+not_load_and_serve (a ∷ b ∷ c ∷ words) asked config load serves = absurd (cc)

@@ -6,11 +6,11 @@ use Rattle.option_file.specs.Configuration.{Configuration, configuration_of}
 use Rattle.option_file.specs.Refusals.{first_refusal}
 use Rattle.option_file.specs.declared.refused.OptionRefused.{OptionRefused}
 use Rattle.session_core.specs.SessionRan.{IsProperPrefix}
-use Rattle.munged_run.specs.Ending.{Ending}
-use Rattle.munged_run.specs.Ending as ending
-use Rattle.munged_run.specs.KeyFile.{GivesNoKey, HoldsKey}
-use Rattle.munged_run.specs.MapFile.{GivesNoMap, HoldMaps}
-use Rattle.munged_run.specs.Unread.{IsUnread}
+use Rattle.munged_files.specs.Ending.{Ending}
+use Rattle.munged_files.specs.Ending as ending
+use Rattle.munged_files.specs.KeyFile.{GivesNoKey, HoldsKey}
+use Rattle.munged_files.specs.MapFile.{GivesNoMap, HoldMaps}
+use Rattle.munged_files.specs.Unread.{IsUnread}
 
 -- the most bytes that are read of an option file, one more than it may have
 abbrev pub options_room : ℕ

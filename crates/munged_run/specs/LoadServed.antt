@@ -86,8 +86,8 @@ pub record LooksUp (number : ℕ) (load : Load) (entries : List Event) (i place 
   pub entries_are : let pair = pair_of load.world.settings.max_ttl ready.credential in
       entries ≡ before ++ Admit pass pair load.moment ∷ others
 
--- The closing history of a load of n credentials: the look-ups of 2 * n jobs, of which job j presents
--- credential j / 2, in whatever order, and then one purge.
+-- The closing history of a load of n credentials: the look-ups of 2 * n jobs, of which job j
+-- presents credential j / 2, in whatever order, and then one purge.
 pub record IsHistoryOf (n number : ℕ) (history : List Event) : Type 0 where
   pub load : Load
   pub load_is : IsLoad n number load

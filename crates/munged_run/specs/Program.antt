@@ -1,5 +1,5 @@
 -- What a run of the program comes to.
-use Rattle.std.specs.Prelude.{◌≡◌, ℕ, List, [], ◌∷◌}
+use Rattle.std.specs.Prelude.{◌≡◌, ℕ, List, []}
 use Rattle.std.specs.declared.option.Option.{Option}
 use Rattle.std.specs.declared.option.Option.TheVariants.{None, Some}
 use Rattle.munge_types.specs.StandsFor.{Remembered}
@@ -12,10 +12,11 @@ use Rattle.session_core.specs.declared.end.SessionEnd.{SessionEnd}
 use Rattle.munged_run.specs.Check.{CheckCame}
 use Rattle.munged_run.specs.CommandLine.{AskedSession, caller_of, command_of}
 use Rattle.munged_run.specs.CommandLine as command
-use Rattle.munged_run.specs.Ending.{Ending, after_session}
-use Rattle.munged_run.specs.Ending as ending
-use Rattle.munged_run.specs.KeyFile.{GivesNoKey, HoldsKey}
-use Rattle.munged_run.specs.SeedFile.{GivesNoSeed, IsSeedOf}
+use Rattle.munged_files.specs.Ending.{Ending}
+use Rattle.munged_run.specs.AfterSession.{after_session}
+use Rattle.munged_files.specs.Ending as ending
+use Rattle.munged_files.specs.KeyFile.{GivesNoKey, HoldsKey}
+use Rattle.munged_files.specs.SeedFile.{GivesNoSeed, IsSeedOf}
 
 -- the session that was asked for, under this key, with these settings and this seed, without
 -- groups, from the empty history on

@@ -8,8 +8,8 @@ use Rattle.session_core.specs.SessionRan.{IsProperPrefix}
 use Rattle.wire_msg.specs.Spelling.{frame_of}
 use Rattle.wire_msg.specs.declared.message.Message.TheVariants.{Bye, Stop}
 use Rattle.munged_run.specs.Check.{GivesNoOptions, HoldsOptions}
-use Rattle.munged_run.specs.Ending.{Ending}
-use Rattle.munged_run.specs.Ending as ending
+use Rattle.munged_files.specs.Ending.{Ending}
+use Rattle.munged_files.specs.Ending as ending
 use Rattle.munged_run.specs.Wire.{Dialled, ReplyEnded, Undialled, WireSeen}
 use Rattle.munged_run.specs.declared.stop_request.AskedToStop.{AskedToStop}
 use Rattle.munged_run.specs.declared.stop_request.AskedToStop.TheVariants.{NoControl, NoMemory, Failed, Other, Stops}
@@ -42,8 +42,8 @@ is_other Failed = false
 is_other Other = true
 is_other Stops = false
 
--- What came of a request to stop over a socket of this path, for each end; `untouched` says that the
--- wire is as before.
+-- What came of a request to stop over a socket of this path, for each end; `untouched` says that
+-- the wire is as before.
 pub data StopAsked (path : List ℕ) (untouched : Type 0) (before after : WireSeen)
     (how : AskedToStop) : Type 0 where
   -- no memory was left before the dial

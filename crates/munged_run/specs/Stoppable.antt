@@ -1,6 +1,5 @@
 -- What a request to stop needs to come to an end of its own, and what it meets.
-use Rattle.std.specs.Prelude.{◌≡◌, ◌≢◌, ℕ, List, [], ◌∷◌, ◌++◌, length, take}
-use Rattle.std.specs.declared.option.Option.{Option}
+use Rattle.std.specs.Prelude.{◌≡◌, ℕ, List, [], ◌∷◌, ◌++◌, length, take}
 use Rattle.std.specs.declared.option.Option.TheVariants.{None, Some}
 use Rattle.byte_io.specs.Files.{file_of}
 use Rattle.option_file.specs.Configuration.{configuration_of}
@@ -19,8 +18,8 @@ next_reply (reply ∷ replies) = reply
 abbrev pub BeginsWithAnswer : List ℕ → Type 0
 BeginsWithAnswer reply = take (length stop_answer) reply ≡ stop_answer
 
--- the words ask by an option file that is not refused, one of its sockets has control, and the reply
--- to the next dial begins with the answer that the daemon stops
+-- the words ask by an option file that is not refused, one of its sockets has control, and the
+-- reply to the next dial begins with the answer that the daemon stops
 pub record CanStop (given : Given) (before : WireSeen) : Type 0 where
   pub config : List ℕ
   pub asked_for : stop_of given.words ≡ Some config

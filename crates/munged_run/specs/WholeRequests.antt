@@ -13,10 +13,10 @@ use Rattle.session_core.specs.Things.{Outside}
 use Rattle.load_maker.specs.Load.{IsUsual}
 use Rattle.munged_run.specs.CommandLine.{AskedSession, command_of}
 use Rattle.munged_run.specs.CommandLine as command
-use Rattle.munged_run.specs.KeyFile.{IsKey}
+use Rattle.munged_files.specs.KeyFile.{IsKey}
 use Rattle.munge_types.specs.declared.settings.Settings.{Settings}
 use Rattle.munged_run.specs.Program.{Given, session_under}
-use Rattle.munged_run.specs.SeedFile.{TellsSeed}
+use Rattle.munged_files.specs.SeedFile.{TellsSeed}
 
 -- The files of a session hold a key, and a seed if one is named for it, and what is left of the
 -- input is whole requests, no more of them than one session answers.

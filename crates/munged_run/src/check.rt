@@ -3,16 +3,13 @@
 ghost use Rattle.std.specs.Prelude.{◌≡◌, ◌≢◌, IfErr, OnOk};
 ghost use Rattle.byte_io.specs.Counts.{Rose};
 ghost use Rattle.munged_run.specs.Check.{AcceptsFiles, CheckCame, FilesChecked, RefusesFiles};
-ghost use Rattle.munged_run.specs.Ending.{Ended, Says, errors_of, output_failed};
-ghost use Rattle.munged_run.specs.EndingTold.{ending_told};
-ghost use Rattle.munged_run.specs.Faults.{CountsFault, FaultOf};
-ghost use Rattle.munged_run.specs.Status.{failed_output, unread_file};
+ghost use Rattle.munged_files.specs.Ending.{Ended, Says, errors_of, output_failed};
+ghost use Rattle.munged_files.specs.EndingTold.{ending_told};
+ghost use Rattle.munged_files.specs.Faults.{CountsFault, FaultOf};
+ghost use Rattle.munged_files.specs.Status.{failed_output, unread_file};
 
-use crate::ending::{Ending, end};
-use crate::file::read_file;
-use crate::key_file::read_key;
-use crate::maps::check_maps;
 use byte_io::{AllWritten, Files, Sink, write_all};
+use munged_files::{Ending, check_maps, end, read_file, read_key};
 use option_file::Options;
 use std::alloc::Global;
 

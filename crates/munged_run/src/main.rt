@@ -1,23 +1,25 @@
 //! The program of munged: `munged session KEYFILE UID GID [SEEDFILE]` answers the requests of its
 //! standard input on its standard output; without a seed file nothing is sealed. `munged check
-//! CONFIG` looks over an option file and the files that it names. `munged exercise N NUMBER WORKERS`
-//! has workers answer the requests of a generated load. `munged stop CONFIG` asks the daemon that
-//! serves by an option file to stop. `munged --help` and `munged --version` say what it is.
+//! CONFIG` looks over an option file and the files that it names. `munged exercise N NUMBER
+//! WORKERS` has workers answer the requests of a generated load. `munged serve CONFIG` serves by an
+//! option file; `munged stop CONFIG` asks the daemon that serves by one to stop. `munged --help`
+//! and `munged --version` say what it is.
 #![tactic(auto)]
 
 mod check;
 mod command;
 mod daemon;
-mod ending;
+mod daemon_end;
 mod exercise;
 mod exercise_words;
-mod file;
-mod key_file;
-mod line;
+mod kept;
 mod load;
-mod maps;
 mod run;
-mod seed_file;
+mod serve;
+mod serve_clocks;
+mod serve_doors;
+mod serve_files;
+mod serve_words;
 mod session;
 mod stop;
 mod stop_request;
@@ -26,17 +28,22 @@ mod stop_words;
 mod tests;
 mod totals;
 
-use byte_io::{DiskFiles, Hall, MemClocks, MemTicker, StdSink, StdSource, SystemClock};
+use byte_io::{DiskFiles, Door, Files, Hall, StdSink, StdSource, SystemClock, Ticker};
+use check::OPTIONS_ROOM;
 use daemon::munged_daemon;
-use ending::Ending;
 use munge_types::NoMemory;
+use munged_files::Ending;
+use option_file::Options;
 use run::munged_run;
+use serve_words::serve_of_words;
+use std::alloc::Global;
 use std::io::{BufReader, ErrorKind, Write};
 use std::process::ExitCode;
 use std::sync::Wait;
 use std::thread::Threads;
 use std::{env, io};
-use unix_io::UnixHall;
+use unix_io::{SleepTicker, SystemClocks, UnixHall};
+use worker_pool::DropBooks;
 
 /// What `munged --help` prints.
 const HELP: &str = "\
@@ -55,6 +62,12 @@ munged: seals credentials and opens them, each at most once
       connections that so many workers serve, each in a thread; then purges
       what has expired, and prints how many requests were accepted, how many
       were replays, how many had expired, and how many credentials are kept
+  munged serve CONFIG
+      opens the sockets of the option file CONFIG, prints ready, and serves
+      what connects to each for the user and the group that stand there, until
+      it is asked to stop; then prints how many decode requests it looked up,
+      how many were accepted, how many were replays, how many had expired, and
+      how many credentials are kept
   munged stop CONFIG
       asks the daemon that serves by the option file CONFIG to stop, over the
       first of its sockets that has control
@@ -66,8 +79,9 @@ end; 1 the words are no command; 2 a file could not be read; 3 a key or seed
 file of a wrong size; 4 an option, passwd or group file is refused, or no socket
 has control; 5 the input, 6 the output or 7 the clock failed; 9 what came is no
 request, or not the answer that the daemon stops; 10 no memory; 11 1048576
-requests were answered; 12 a socket failed. One line on standard error says
-which.
+requests were answered; 12 a socket failed, or could not be opened; 13 the timer
+of the purges failed; 14 the daemon has looked up as many requests as one can.
+One line on standard error says which.
 
 N is 1 to 50000, NUMBER up to 18446744073709551615, WORKERS 1 to 64.
 ";
@@ -144,20 +158,50 @@ fn answer(rt: HostRuntime, words: &[String]) -> ExitCode {
     ))
 }
 
-/// Runs the daemon over the hall. Nothing that it does yet asks for a clock or a tick: there are
-/// none.
-fn serve(
+/// How many seconds lie between two purges where no option file says it.
+const USUAL_INTERVAL: u32 = 60;
+
+/// The options by which the words ask a daemon to serve, if they do and the file gives some. Where
+/// it gives none, the daemon itself says why.
+fn options_to_serve(rt: HostRuntime, words: &[String]) -> Option<Options> {
+    let config = serve_of_words(words)?;
+    let mut files = DiskFiles::new(rt);
+    let bytes = files.read(rt.alloc(), config, OPTIONS_ROOM).ok()?;
+    Options::read(rt.alloc(), &bytes).ok()
+}
+
+/// Tells the hall for whom each socket is.
+fn set_owners<R: Copy>(
+    hall: &mut UnixHall<R>,
+    alloc: Global,
+    options: &Options,
+) -> Result<(), NoMemory> {
+    for line in options.sockets() {
+        hall.set_owner(alloc, line.path.text(), line.who.uid, line.who.gid)?;
+    }
+    Ok(())
+}
+
+/// Runs the daemon over the hall and the ticker.
+fn run_daemon<H, T>(
     threads: &(impl Threads + Wait + Sync),
     rt: HostRuntime,
     words: &[String],
-    hall: &mut impl Hall,
-) -> ExitCode {
+    hall: &mut H,
+    ticker: &mut T,
+) -> ExitCode
+where
+    H: Hall,
+    H::Door: Drop,
+    <H::Door as Door>::Conn: Drop,
+    T: Ticker,
+{
     let alloc = rt.alloc();
     let mut files = DiskFiles::new(rt);
     let mut out = StdSink::new(rt.stdout());
     let mut err = StdSink::new(rt.stderr());
-    let mut clocks = MemClocks::new(alloc, Vec::new(alloc));
-    let mut ticker = MemTicker::new(0, Vec::new(alloc));
+    let mut clocks = SystemClocks::new(rt);
+    let mut books = DropBooks::new();
     let ended = munged_daemon(
         threads,
         alloc,
@@ -167,7 +211,8 @@ fn serve(
         &mut out,
         &mut err,
         &mut clocks,
-        &mut ticker,
+        ticker,
+        &mut books,
     );
     ExitCode::from(ended.status)
 }
@@ -183,8 +228,18 @@ fn main(rt: HostRuntime) -> ExitCode {
     if are_for_run(&words) {
         return answer(rt, words.as_slice());
     }
-    match UnixHall::new(rt, rt.alloc()) {
-        Ok(mut hall) => serve(&rt, rt, words.as_slice(), &mut hall),
+    let Ok(mut hall) = UnixHall::new(rt, rt.alloc()) else {
+        return end(&rt, Ending::NoMemory);
+    };
+    let mut interval = USUAL_INTERVAL;
+    if let Some(options) = options_to_serve(rt, words.as_slice()) {
+        interval = options.interval();
+        if set_owners(&mut hall, rt.alloc(), &options).is_err() {
+            return end(&rt, Ending::NoMemory);
+        }
+    }
+    match SleepTicker::new(&hall, interval) {
+        Ok(mut ticker) => run_daemon(&rt, rt, words.as_slice(), &mut hall, &mut ticker),
         Err(NoMemory) => end(&rt, Ending::NoMemory),
     }
 }

@@ -5,9 +5,9 @@ ghost use Rattle.std.specs.String.{string_bytes};
 ghost use Rattle.byte_io.specs.Counts.{Rose};
 ghost use Rattle.session_core.specs.Things.{input_of, outside_of};
 ghost use Rattle.munged_run.specs.CommandLine.{command_of};
-ghost use Rattle.munged_run.specs.Ending.{Ended, Says, errors_of};
+ghost use Rattle.munged_files.specs.Ending.{Ended, Says, errors_of};
 ghost use Rattle.munged_run.specs.Program.{ComesTo, given_of, same_of};
-ghost use Rattle.munged_run.specs.Status.{
+ghost use Rattle.munged_files.specs.Status.{
   bad_words,
   failed_clock,
   failed_input,
@@ -20,9 +20,9 @@ ghost use Rattle.munged_run.specs.WholeRequests.{AnswersWhole, WholeRequests};
 
 use crate::check::run_check;
 use crate::command::{Command, command_of_words};
-use crate::ending::{Ending, end};
 use crate::session::run_session;
 use byte_io::{Clock, Files, Sink, Source};
+use munged_files::{Ending, end};
 use std::alloc::Global;
 use wire_msg::laws::{frame_has_one_message, no_frame_goes_on_to_another};
 

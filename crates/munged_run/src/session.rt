@@ -3,22 +3,21 @@
 ghost use Rattle.std.specs.Prelude.{◌≡◌, ◌≢◌};
 ghost use Rattle.byte_io.specs.Counts.{Rose};
 ghost use Rattle.session_core.specs.Things.{input_of, outside_of};
-ghost use Rattle.munged_run.specs.Ending.{clock_failed, input_failed, output_failed};
-ghost use Rattle.munged_run.specs.EndingTold.{ending_told};
-ghost use Rattle.munged_run.specs.Faults.{FaultOf};
+ghost use Rattle.munged_files.specs.Ending.{clock_failed, input_failed, output_failed};
+ghost use Rattle.munged_files.specs.EndingTold.{ending_told};
+ghost use Rattle.munged_files.specs.Faults.{FaultOf};
+ghost use Rattle.munged_run.specs.AfterSession.{after_session};
 ghost use Rattle.munged_run.specs.Program.{SessionCame};
 ghost use Rattle.munged_run.specs.SessionCommand.{asked_told};
 
 use crate::command::SessionCommand;
-use crate::ending::Ending;
-use crate::key_file::read_key;
-use crate::seed_file::read_seed;
 use byte_io::{Clock, Files, Sink, Source};
 use decode_rules::World;
 use group_map::GroupMap;
 use munge_types::Settings;
+use munged_files::{Ending, read_key, read_seed};
 use replay_table::ReplayTable;
-use session_core::session;
+use session_core::{HowEnded, session};
 use std::alloc::Global;
 use std::hash::{BuildHasherDefault, FoldHasher};
 
@@ -74,5 +73,20 @@ pub fn run_session<'a, F: Files, I: Source, O: Sink, C: Clock>(
     let mut replay = ReplayTable::new(alloc, hash_state);
     let who = asked.caller();
     let end = session(alloc, input, out, clock, &mut replay, who, &world, seed);
-    Ending::after(end.how)
+    after_session(end.how)
+}
+
+/// How the program ends after a session that ended so.
+fn after_session(how: HowEnded) -> Ending<'static>
+    ensures { ending_told result ≡ after_session how }
+{
+    match how {
+        HowEnded::Done => Ending::Done,
+        HowEnded::ReadFault => Ending::InputFailed,
+        HowEnded::WriteFault => Ending::OutputFailed,
+        HowEnded::ClockFault => Ending::ClockFailed,
+        HowEnded::Malformed(place) => Ending::Malformed(place),
+        HowEnded::Budget => Ending::Budget,
+        HowEnded::NoMemory => Ending::NoMemory,
+    }
 }

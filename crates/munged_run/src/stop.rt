@@ -2,24 +2,25 @@
 
 ghost use Rattle.std.specs.Prelude.{◌≡◌, ◌≢◌, ◌↔◌, false, option_map, true};
 ghost use Rattle.byte_io.specs.Counts.{Rose};
-ghost use Rattle.munged_run.specs.Ending.{Ended, Says, errors_of, line_of, status_of};
-ghost use Rattle.munged_run.specs.EndingTold.{ending_told};
-ghost use Rattle.munged_run.specs.Status.{
+ghost use Rattle.munged_files.specs.Ending.{Ended, Says, errors_of, line_of, status_of};
+ghost use Rattle.munged_files.specs.EndingTold.{ending_told};
+ghost use Rattle.munged_files.specs.Status.{
   bad_message,
   bad_words,
   failed_output,
   failed_socket,
+  failed_ticker,
   unread_file,
+  worn_gate,
 };
-ghost use Rattle.munged_run.specs.Stop.{StopCame, StoppedBy, control_path};
+ghost use Rattle.munged_run.specs.Stop.{StopCame, StoppedBy, after_asking, control_path};
 ghost use Rattle.munged_run.specs.Wire.{WireFailed, WireSound, seen_by};
 ghost use Rattle.munged_run.specs.declared.stop_request.AskedToStop.TheVariants.{Failed};
 
 use crate::check::OPTIONS_ROOM;
-use crate::ending::{Ending, end};
-use crate::file::read_file;
 use crate::stop_request::{AskedToStop, ask_to_stop};
 use byte_io::{Files, Hall, Sink};
+use munged_files::{Ending, end, read_file};
 use option_file::{Options, SocketLine};
 use std::alloc::Global;
 
@@ -62,6 +63,8 @@ pub fn run_stop<F: Files, H: Hall, E: Sink>(
         result.status ≢ failed_socket → WireSound (seen hall.old) (seen hall.new) }
     ensures words_are_good { result.status ≢ bad_words }
     ensures no_output { result.status ≢ failed_output }
+    ensures no_ticker { result.status ≢ failed_ticker }
+    ensures no_gate { result.status ≢ worn_gate }
 
     ensures files_stay { F.files files.new ≡ F.files files.old }
     ensures doors_stay { H.doors hall.new ≡ H.doors hall.old }
@@ -75,7 +78,7 @@ pub fn run_stop<F: Files, H: Hall, E: Sink>(
         Ok(options) => {
             let asked = stop_by(alloc, options.sockets(), hall);
             StopEnd {
-                status: end(err, Ending::after_asking(asked)),
+                status: end(err, after_asking(asked)),
                 malformed: asked.is_other(),
             }
         }
@@ -109,6 +112,19 @@ fn path_with_control(lines: &[SocketLine]) -> Option<&str>
 {
     let line = lines.iter().find(|line| line.who.control)?;
     Some(line.path.text())
+}
+
+/// How the program ends after a request to stop.
+fn after_asking(asked: AskedToStop) -> Ending<'static>
+    ensures { ending_told result ≡ after_asking asked }
+{
+    match asked {
+        AskedToStop::NoControl => Ending::NoControl,
+        AskedToStop::NoMemory => Ending::NoMemory,
+        AskedToStop::Failed => Ending::SocketFailed,
+        AskedToStop::Other => Ending::Unanswered,
+        AskedToStop::Stops => Ending::Done,
+    }
 }
 
 /// Says how the program ends without a request, and returns that.

@@ -1,13 +1,17 @@
 //! Runs of the program over the outside in memory.
 
+mod beside;
 mod check;
 mod ciphers;
 mod credential;
 mod exercise;
 mod faults;
 mod fixture;
+mod purging;
 mod requests;
 mod sealing;
+mod serve;
+mod serving;
 mod stop;
 mod turns;
 mod words;

@@ -7,6 +7,7 @@ use std::process::Abort;
 use std::sync::Wait;
 use std::test::Fail;
 use std::thread::Threads;
+use worker_pool::DropBooks;
 
 /// The totals of a load of 500 credentials.
 const TOTALS_OF_500: &str = "presented 1000 accepted 500 replayed 500 expired 0 kept 250\n";
@@ -49,6 +50,7 @@ fn assert_ends<R: Threads + Wait + Sync + Abort>(
         &mut err,
         &mut clocks,
         &mut ticker,
+        &mut DropBooks::new(),
     );
     assert_eq!(rt; ended.status, status, "the status of {lines}");
     assert_eq!(rt; out.taken(), printed.as_bytes(), "what {lines} printed");
@@ -72,7 +74,9 @@ fn words_that_ask_for_no_load(rt: HostRuntime) -> Result<(), Fail> {
         "exercise\n1\n-1\n1",
         "exercise\n1\n\n1",
         "Exercise\n1\n1\n1",
-        "serve\nconfig",
+        "serve",
+        "serve\nconfig\nmore",
+        "Serve\nconfig",
         "stop",
         "stop\nconfig\nmore",
         "Stop\nconfig",

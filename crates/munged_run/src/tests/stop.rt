@@ -7,6 +7,7 @@ use std::process::Abort;
 use std::sync::Wait;
 use std::test::Fail;
 use std::thread::Threads;
+use worker_pool::DropBooks;
 
 /// The first two of three sockets; the second has control.
 const OPTIONS: &str = "\
@@ -98,6 +99,7 @@ fn assert_ends<R: Threads + Wait + Sync + Abort>(
         &mut err,
         &mut clocks,
         &mut ticker,
+        &mut DropBooks::new(),
     );
     assert_eq!(rt; ended.status, wanted.status, "after {reply:?}");
     assert_eq!(rt; ended.malformed, wanted.status == 9);

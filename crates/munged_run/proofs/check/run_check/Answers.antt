@@ -1,6 +1,6 @@
 use Rattle.std.proofs.Common.{refl}
 use Rattle.munged_run.specs.Check.{checked, no_options}
-use Rattle.munged_run.specs.Ending.{ending_by}
+use Rattle.munged_files.specs.Ending.{ending_by}
 use Rattle.munged_run.proofs.CheckLemmas.{no_options_by}
 use Rattle.munged_run.proofs.check.run_check.Goals as goal
 

@@ -1,5 +1,5 @@
 use Rattle.std.proofs.Common.{[], refl, ap, ◌∙◌}
-use Rattle.munged_run.specs.Ending.{after_session}
+use Rattle.munged_run.specs.AfterSession.{after_session}
 use Rattle.munged_run.specs.Program.{answered, unkeyed, unseeded}
 use Rattle.munged_run.proofs.RunLemmas.{session_answered}
 use Rattle.munged_run.proofs.session.run_session.Goals as goal
@@ -28,16 +28,16 @@ returns-clause-came g c =
     c.caller-who.ensures c.new-replay.ensures.floor c.new-replay.ensures.kept
     (c.session-end.ensures.ran (record { key = key.key; passwd = []; group = [] }) []
     (record { subkeys = key.subkeys_are; groups = c.none.ensures }) c.new-replay.ensures.stands)
-    c.after.ensures)
+    c.after_session.ensures)
 
 pub returns-clause-reads_sound : goal.returns-clause-reads_sound
 returns-clause-reads_sound g c =
-    λ other. c.session-end.ensures.reads_sound (λ is. other (c.after.ensures ∙ ap after_session is))
+    λ other. c.session-end.ensures.reads_sound (λ is. other (c.after_session.ensures ∙ ap after_session is))
 
 pub returns-clause-writes_sound : goal.returns-clause-writes_sound
 returns-clause-writes_sound g c =
-    λ other. c.session-end.ensures.writes_sound (λ is. other (c.after.ensures ∙ ap after_session is))
+    λ other. c.session-end.ensures.writes_sound (λ is. other (c.after_session.ensures ∙ ap after_session is))
 
 pub returns-clause-clock_sound : goal.returns-clause-clock_sound
 returns-clause-clock_sound g c =
-    λ other. c.session-end.ensures.clock_sound (λ is. other (c.after.ensures ∙ ap after_session is))
+    λ other. c.session-end.ensures.clock_sound (λ is. other (c.after_session.ensures ∙ ap after_session is))

@@ -1,5 +1,5 @@
-use Rattle.std.proofs.Common.{refl, ◌∙◌, ap}
-use Rattle.munged_run.specs.Ending.{ending_by, line_of, status_of}
+use Rattle.std.proofs.Common.{refl}
+use Rattle.munged_files.specs.Ending.{ending_by}
 use Rattle.munged_run.specs.Stop.{after_asking, by_options, no_options}
 use Rattle.munged_run.proofs.CheckLemmas.{no_options_by}
 use Rattle.munged_run.proofs.stop.run_stop.Goals as goal

@@ -1,0 +1,10 @@
+pub mod Ending
+pub mod EndingTold
+pub mod Faults
+pub mod KeyFile
+pub mod Line
+pub mod MapFile
+pub mod MapsRead
+pub mod SeedFile
+pub mod Status
+pub mod Unread
