@@ -3,7 +3,8 @@
 #                     first session, and seals a credential and opens it twice, frame by frame
 #   make build        proves and builds them
 #   make try          proves and builds them, and runs them for what no clause says of their mains: that
-#                     they hand on all of their words, each stream, the connection and the status
+#                     they hand on all of their words, each stream, the connection and the status, and
+#                     that a daemon serves many, silent and broken clients over real sockets
 #   make install      proves and builds them, and puts munged into DESTDIR PREFIX/sbin, and the client
 #                     programs into DESTDIR PREFIX/bin
 #   make uninstall    takes them away from there
@@ -34,6 +35,7 @@ build:
 try: build
 	tools/try-main $(BUILT)
 	tools/try-tools
+	tools/try-serve
 
 install: build
 	install -D -m 0755 $(BUILT) $(SBIN)/munged
