@@ -150,3 +150,21 @@ fn padding_taken_off(rt: HostRuntime) {
         assert_eq!(rt; unpad(padded), length, "{padded:?}");
     }
 }
+
+/// The caller that the crate's documentation shows.
+/// RFC 3602, section 4, case 1, and behind it a block of padding.
+#[test]
+fn caller(rt: HostRuntime) {
+    let key = DataKey::Aes128(Key128::new(
+        b"\x06\xa9\x21\x40\x36\xb8\xa1\x5b\x51\x2e\x03\xd5\x34\x12\x00\x06",
+    ));
+    let iv = b"\x3d\xaf\xba\x42\x9d\x9e\xb4\x30\xb4\x22\xda\x80\x2c\x9f\xac\x41";
+    let mut buf = [pad_size(16); 32];
+    buf[..16].copy_from_slice(b"Single block msg");
+    seal_in_place(&key, iv, &mut buf);
+    let sealed = b"\xe3\x53\x77\x9c\x10\x79\xae\xb8\x27\x08\x94\x2d\xbe\x77\x18\x1a";
+    assert_eq!(rt; &buf[..16], sealed.as_slice());
+    open_in_place(&key, iv, &mut buf);
+    assert_eq!(rt; unpad(&buf), Some(16));
+    assert_eq!(rt; &buf[..16], b"Single block msg".as_slice());
+}

@@ -1,6 +1,20 @@
 //! The armour of a credential: its body in base64 (RFC 4648, the standard alphabet with padding, in
 //! its canonical spelling) between `MUNGE:` and `:`, with spaces round them. `armor` writes it
 //! without spaces, and `unarmor` reads it back.
+//!
+//! A caller, which the test `caller` runs:
+//!
+//! ```
+//! let text = armor(rt.alloc(), b"foobar")?;
+//! assert_eq!(rt; text.as_slice(), b"MUNGE:Zm9vYmFy:".as_slice());
+//! let body = unarmor(rt.alloc(), b" \tMUNGE:Zm9vYmFy:\r\n")?;
+//! assert_eq!(rt; body.as_slice(), b"foobar".as_slice());
+//! match unarmor(rt.alloc(), b"Zm9vYmFy") {
+//!     Ok(_) => assert!(rt; false, "a body without marks"),
+//!     Err(refused) => assert_eq!(rt; refused, ArmorRefused::NotArmor),
+//! }
+//! Ok(())
+//! ```
 #![tactic(auto)]
 
 mod armoring;

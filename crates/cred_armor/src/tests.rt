@@ -78,3 +78,18 @@ fn spaces_and_spellings(rt: HostRuntime) -> Result<(), Fail> {
     }
     Ok(())
 }
+
+/// The caller that the crate's documentation shows.
+/// RFC 4648, section 10: the last of its bodies.
+#[test]
+fn caller(rt: HostRuntime) -> Result<(), Fail> {
+    let text = armor(rt.alloc(), b"foobar")?;
+    assert_eq!(rt; text.as_slice(), b"MUNGE:Zm9vYmFy:".as_slice());
+    let body = unarmor(rt.alloc(), b" \tMUNGE:Zm9vYmFy:\r\n")?;
+    assert_eq!(rt; body.as_slice(), b"foobar".as_slice());
+    match unarmor(rt.alloc(), b"Zm9vYmFy") {
+        Ok(_) => assert!(rt; false, "a body without marks"),
+        Err(refused) => assert_eq!(rt; refused, ArmorRefused::NotArmor),
+    }
+    Ok(())
+}
