@@ -46,7 +46,7 @@ uninstall:
 
 check:
 	@mkdir -p build; failed=0; \
-	for tool in "crate-tree --check" "definitions --check" "vectors --check" option-example check-links; do \
+	for tool in "crate-tree --check" "definitions --check" "vectors --check" option-example check-callers check-links; do \
 	    tools/$$tool >build/check.log || { failed=1; cat build/check.log; }; \
 	done; \
 	exit $$failed
