@@ -4,10 +4,13 @@
 #   make build        proves and builds them
 #   make try          proves and builds them, and runs them for what no clause says of their mains: that
 #                     they hand on all of their words, each stream, the connection and the status, and
-#                     that a daemon serves many, silent and broken clients over real sockets
+#                     that a daemon serves many, silent and broken clients over real sockets; and types
+#                     the README's walk-through
 #   make install      proves and builds them, and puts munged into DESTDIR PREFIX/sbin, and the client
 #                     programs into DESTDIR PREFIX/bin
 #   make uninstall    takes them away from there
+#   make check-install installs into a temporary folder, types the README's walk-through with what is
+#                     installed there, uninstalls, and sees that no file is left
 #   make check        looks over the documents, the tests' vectors and what is made from the sources
 #   make docs         makes again what documents have from the sources
 # Variables: PREFIX is where they are to run, DESTDIR a folder that stands for / while a package is
@@ -23,7 +26,7 @@ BUILT_TOOLS = $(foreach tool,$(TOOLS),crates/$(tool)/out/$(tool))
 SBIN = $(DESTDIR)$(PREFIX)/sbin
 BIN = $(DESTDIR)$(PREFIX)/bin
 
-.PHONY: run build try install uninstall check docs
+.PHONY: run build try install uninstall check-install check docs
 
 run: build
 	tools/first-session $(BUILT) $(PROGRAM)
@@ -36,6 +39,7 @@ try: build
 	tools/try-main $(BUILT)
 	tools/try-tools
 	tools/try-serve
+	tools/walk-through
 
 install: build
 	install -D -m 0755 $(BUILT) $(SBIN)/munged
@@ -43,6 +47,9 @@ install: build
 
 uninstall:
 	rm -f $(SBIN)/munged $(TOOLS:%=$(BIN)/%)
+
+check-install:
+	tools/check-install $(PREFIX)
 
 check:
 	@mkdir -p build; failed=0; \
