@@ -12,6 +12,8 @@ mod requests;
 mod sealing;
 mod serve;
 mod serving;
+mod sockets;
 mod stop;
+mod tools;
 mod turns;
 mod words;

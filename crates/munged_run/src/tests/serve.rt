@@ -5,7 +5,9 @@ ghost use Rattle.std.specs.List.{All};
 ghost use Rattle.byte_io.specs.MemDoor.{HasNoFault};
 ghost use Rattle.byte_io.specs.MemHall.{HasNoDoorFault};
 
-use super::serving::{BOTH, FIRST, Given, Kept, REQUEST, SERVED, USUAL, Wanted, assert_serves};
+use super::serving::{
+    BOTH, FIRST, Given, Kept, NONE, REQUEST, SERVED, USUAL, Wanted, assert_serves,
+};
 use byte_io::{MemDoor, MemHall, MemLink, MemTicker, MemWire, NamedDoor};
 use std::alloc::{AllocError, Global};
 use std::process::Abort;
@@ -39,9 +41,6 @@ const SOUND: Outside = Outside {
 
 /// An option file with a key file that is not there.
 const NO_KEY: &[u8] = b"key = \"none\"\n[[socket]]\npath = \"a\"\nuid = 7\ngid = 7\n";
-
-/// What is printed where nothing came.
-const NONE: &str = "ready\npresented 0 accepted 0 replayed 0 expired 0 kept 0\n";
 
 /// What is printed where the text came once.
 const ONE: &str = "ready\npresented 1 accepted 1 replayed 0 expired 0 kept 1\n";

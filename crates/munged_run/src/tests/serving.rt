@@ -20,6 +20,9 @@ pub(super) const REQUEST: &[u8] =
 /// What is printed where that text came twice, and its pair is kept.
 pub(super) const BOTH: &str = "ready\npresented 2 accepted 1 replayed 1 expired 0 kept 1\n";
 
+/// What is printed where nothing came.
+pub(super) const NONE: &str = "ready\npresented 0 accepted 0 replayed 0 expired 0 kept 0\n";
+
 /// Posts and turns that the books keep between them, if anything is served.
 pub(super) type Kept<'a> = Option<&'a [(u32, u64)]>;
 
@@ -86,12 +89,20 @@ pub(super) const SERVED: Wanted<'static> = Wanted {
     said: "",
 };
 
-/// The words of the command line.
-fn words_of(alloc: Global) -> Result<Vec<String>, AllocError> {
-    Ok(vec![in alloc;
-        String::from_str(alloc, "serve")?,
-        String::from_str(alloc, "munged.toml")?,
-    ]?)
+/// Nothing came.
+pub(super) const SERVED_NONE: Wanted<'static> = Wanted {
+    status: 0,
+    printed: NONE,
+    said: "",
+};
+
+/// The words of a command line, one a line.
+pub(super) fn words_of(alloc: Global, lines: &str) -> Result<Vec<String>, AllocError> {
+    let mut words = Vec::new(alloc);
+    for word in lines.lines() {
+        words.push(String::from_str(alloc, word)?)?;
+    }
+    Ok(words)
 }
 
 /// A file with this name and these bytes.
@@ -103,7 +114,7 @@ fn file(alloc: Global, name: &str, bytes: &[u8]) -> Result<NamedFile, AllocError
 }
 
 /// The files.
-fn files_of(alloc: Global, given: &Given<'_>) -> Result<MemFiles, AllocError> {
+pub(super) fn files_of(alloc: Global, given: &Given<'_>) -> Result<MemFiles, AllocError> {
     let workers = given.workers;
     let options = format!(in alloc; "workers = {workers}\n{OPTIONS}")?;
     let (name, bytes) = given.front;
@@ -165,7 +176,7 @@ struct Handed {
 /// What it is handed.
 fn handed_of(alloc: Global, given: &Given<'_>) -> Result<Handed, AllocError> {
     Ok(Handed {
-        words: words_of(alloc)?,
+        words: words_of(alloc, "serve\nmunged.toml")?,
         files: files_of(alloc, given)?,
         clocks: clocks_of(alloc, given)?,
         out: MemSink::new(alloc, vec![in alloc; given.failing_write]?),
@@ -181,7 +192,7 @@ pub(super) fn serve<H, T, B, R>(
     ticker: &mut T,
     books: &mut B,
     wanted: &Wanted<'_>,
-) -> Result<DaemonEnd<H::Door, MemClock, B::One>, Fail>
+) -> Result<DaemonEnd<H::Door, MemClock, B::One>, AllocError>
 where
     H: Hall,
     H::Door: Drop,
