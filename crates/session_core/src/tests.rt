@@ -2,6 +2,9 @@
 //! `--credential` of the repository's script of vectors, for a key file and a seed of 32 zeros and
 //! the caller 7, 7; frames were written out by hand from the layout of the messages.
 
+mod both_structures;
+mod sessions;
+
 ghost use Rattle.std.specs.Prelude.{◌≡◌, IfOk};
 
 use crate::{ServeEnd, Served, serve_one};
@@ -41,6 +44,15 @@ fn caller(uid: u32, control: bool) -> Identity {
     }
 }
 
+/// The world of a key file of 32 zeros, with the usual times and without groups.
+fn world() -> Result<World, Fail> {
+    Ok(World {
+        subkeys: Subkeys::of(&[0; 32])?,
+        settings: Settings::usual(),
+        groups: GroupMap::none(),
+    })
+}
+
 /// A gate, and what its connections are served with.
 #[derive(Drop)]
 struct Host {
@@ -54,11 +66,7 @@ impl Host {
     fn new(alloc: Global) -> Result<Host, Fail>
         ensures { IfOk result (λ host. host.pass.gate ≡ host.gate) }
     {
-        let world = World {
-            subkeys: Subkeys::of(&[0; 32])?,
-            settings: Settings::usual(),
-            groups: GroupMap::none(),
-        };
+        let world = world()?;
         let Entry { gate, pass } = Gate::new(alloc, PlainReplay::new(alloc), 1)?;
         let dice = Dice::new([0; 32]);
         Ok(Host {
