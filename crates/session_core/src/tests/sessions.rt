@@ -25,7 +25,7 @@ const REPLY_SIZE: usize = 17;
 /// The most bytes that one read gives.
 const PIECE: u32 = 5;
 
-/// A number of which the first run makes fewer reads, writes and readings of the clock.
+/// More than the first run makes of any of these calls.
 const MANY: u32 = 15;
 
 /// The numbers of the read, the write and the reading of the clock that fail, counted from 1; 0 for
@@ -90,10 +90,20 @@ fn assert_ends(
     let moments = vec![in alloc; 1000; 3]?;
     let mut replay = PlainReplay::new(alloc);
     let ran = run(alloc, &mut replay, input.to_vec(alloc)?, moments, failing)?;
-    assert_eq!(rt; ran.end, end);
+    let Failing { read, write, clock } = failing;
+    let given = input.len();
+    assert_eq!(rt;
+        ran.end,
+        end,
+        "{given} bytes, failing {read} {write} {clock}"
+    );
     let size = REPLY_SIZE * end.answered as usize;
     assert!(rt; size <= OUTPUT.len());
-    assert_eq!(rt; ran.output.as_slice(), &OUTPUT[..size]);
+    assert_eq!(rt;
+        ran.output.as_slice(),
+        &OUTPUT[..size],
+        "{given} bytes, failing {read} {write} {clock}"
+    );
     Ok(())
 }
 
