@@ -2,14 +2,15 @@
 
 use super::serving::{SERVED_NONE, USUAL, Wanted, files_of, serve, words_of};
 use crate::daemon::munged_daemon;
-use byte_io::{AllWritten, FullRead, MemClocks, MemSink, MemTicker, Wire, read_full, write_all};
+use byte_io::{
+    AllWritten, Door, FullRead, Hall, MemClocks, MemSink, MemTicker, Ticker, Wire, read_full,
+    write_all,
+};
 use std::alloc::{AllocError, Global};
-use std::net::Net;
 use std::process::Abort;
 use std::sync::Wait;
 use std::test::Fail;
-use std::thread::Threads;
-use std::{rt, thread};
+use std::thread::{self, Threads};
 use unix_io::{SleepTicker, UnixHall};
 use worker_pool::DropBooks;
 
@@ -38,15 +39,19 @@ pub(super) fn gets_through(wire: &mut impl Wire) -> bool {
 }
 
 /// Serves over the hall until it is asked to stop, and asserts how that ends.
-pub(super) fn assert_served<R>(
+pub(super) fn assert_served<H, T, R>(
     rt: &R,
     alloc: Global,
-    hall: &mut UnixHall<R>,
-    ticker: &mut SleepTicker<R>,
+    hall: &mut H,
+    ticker: &mut T,
     wanted: &Wanted<'_>,
 )
 where
-    R: rt::Files + Net + rt::Clock + Threads + Wait + Sync + Abort + Copy + Send,
+    H: Hall,
+    H::Door: Drop,
+    <H::Door as Door>::Conn: Drop,
+    T: Ticker,
+    R: Threads + Wait + Sync + Abort,
 {
     let mut books = DropBooks::new();
     let end = serve(rt, alloc, &USUAL, hall, ticker, &mut books, wanted);
@@ -54,13 +59,12 @@ where
 }
 
 /// Asks the daemon over the wire to stop, and asserts that it does.
-pub(super) fn assert_stops<R>(
-    rt: &R,
-    alloc: Global,
-    wire: &mut UnixHall<R>,
-) -> Result<(), AllocError>
+pub(super) fn assert_stops<H, R>(rt: &R, alloc: Global, wire: &mut H) -> Result<(), AllocError>
 where
-    R: rt::Files + Net + rt::Clock + Threads + Wait + Sync + Abort + Copy + Send,
+    H: Hall,
+    H::Door: Drop,
+    <H::Door as Door>::Conn: Drop,
+    R: Threads + Wait + Sync + Abort,
 {
     let words = words_of(alloc, "stop\nmunged.toml")?;
     let mut files = files_of(alloc, &USUAL)?;
@@ -93,16 +97,17 @@ fn assert_answered(rt: &impl Abort, wire: &mut impl Wire) {
     assert_eq!(rt; &into[..17], REPLY);
 }
 
-/// A client that has its one request answered, and then asks the daemon to stop.
-fn ask_and_stop<R>(rt: &R, alloc: Global) -> Result<(), Fail>
+/// A client that has one request answered, and then asks the daemon to stop.
+fn ask_and_stop<H, R>(rt: &R, alloc: Global, wire: &mut H) -> Result<(), AllocError>
 where
-    R: rt::Files + Net + rt::Clock + Threads + Wait + Sync + Abort + Copy + Send,
+    H: Hall,
+    H::Door: Drop,
+    <H::Door as Door>::Conn: Drop,
+    R: Threads + Wait + Sync + Abort,
 {
-    let mut wire = UnixHall::new(*rt, alloc)?;
-    assert!(rt; gets_through(&mut wire), "no dial succeeded");
-    assert_answered(rt, &mut wire);
-    assert_stops(rt, alloc, &mut wire)?;
-    Ok(())
+    assert!(rt; gets_through(wire), "no dial succeeded");
+    assert_answered(rt, wire);
+    assert_stops(rt, alloc, wire)
 }
 
 #[test]
@@ -110,10 +115,11 @@ fn socket_serves(rt: HostRuntime) -> Result<(), Fail> {
     let alloc = rt.alloc();
     let mut hall = UnixHall::new(rt, alloc)?;
     let mut ticker = SleepTicker::new(&hall, INTERVAL)?;
+    let mut wire = UnixHall::new(rt, alloc)?;
     let (_, asked) = thread::join(
         &rt,
         || assert_served(&rt, alloc, &mut hall, &mut ticker, &SERVED_NONE),
-        || ask_and_stop(&rt, alloc),
+        || ask_and_stop(&rt, alloc, &mut wire),
     );
-    asked
+    Ok(asked?)
 }

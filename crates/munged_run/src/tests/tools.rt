@@ -2,15 +2,13 @@
 
 use super::serving::{SERVED, words_of};
 use super::sockets::{INTERVAL, assert_served, assert_stops, gets_through};
-use byte_io::{MemSink, MemSource, Wire};
+use byte_io::{Door, Hall, MemSink, MemSource, Wire};
 use munge_tools::{munge_run, unmunge_run};
 use std::alloc::{AllocError, Global};
-use std::net::Net;
 use std::process::Abort;
 use std::sync::Wait;
 use std::test::Fail;
-use std::thread::Threads;
-use std::{rt, thread};
+use std::thread::{self, Threads};
 use unix_io::{SleepTicker, UnixHall};
 
 /// What unmunge prints of the credential when it is opened for the first time.
@@ -63,21 +61,23 @@ fn assert_opened(
     out.taken().to_vec(alloc)
 }
 
-/// Seals once and opens twice, each over a connection of its own, and then asks the daemon to stop.
-fn seal_open_and_stop<R>(rt: &R, alloc: Global) -> Result<(), Fail>
+/// Seals once and opens twice, each over a connection of its own, once a dial of another client has
+/// succeeded; and then asks the daemon to stop.
+fn seal_open_and_stop<H, R>(rt: &R, alloc: Global, first: H, wire: &mut H) -> Result<(), AllocError>
 where
-    R: rt::Files + Net + rt::Clock + Threads + Wait + Sync + Abort + Copy + Send,
+    H: Hall + Drop,
+    H::Door: Drop,
+    <H::Door as Door>::Conn: Drop,
+    R: Threads + Wait + Sync + Abort,
 {
-    let mut first = UnixHall::new(*rt, alloc)?;
+    let mut first = first;
     assert!(rt; gets_through(&mut first), "no dial succeeded");
     drop(first);
-    let mut wire = UnixHall::new(*rt, alloc)?;
-    let sealed = assert_sealed(rt, alloc, &mut wire)?;
-    let opened = assert_opened(rt, alloc, &mut wire, &sealed, 0)?;
+    let sealed = assert_sealed(rt, alloc, wire)?;
+    let opened = assert_opened(rt, alloc, wire, &sealed, 0)?;
     assert_eq!(rt; opened.as_slice(), PRINTED.as_bytes());
-    assert_opened(rt, alloc, &mut wire, &sealed, 17)?;
-    assert_stops(rt, alloc, &mut wire)?;
-    Ok(())
+    assert_opened(rt, alloc, wire, &sealed, 17)?;
+    assert_stops(rt, alloc, wire)
 }
 
 #[test]
@@ -85,10 +85,12 @@ fn tools_round(rt: HostRuntime) -> Result<(), Fail> {
     let alloc = rt.alloc();
     let mut hall = UnixHall::new(rt, alloc)?;
     let mut ticker = SleepTicker::new(&hall, INTERVAL)?;
+    let first = UnixHall::new(rt, alloc)?;
+    let mut wire = UnixHall::new(rt, alloc)?;
     let (_, asked) = thread::join(
         &rt,
         || assert_served(&rt, alloc, &mut hall, &mut ticker, &SERVED),
-        || seal_open_and_stop(&rt, alloc),
+        || seal_open_and_stop(&rt, alloc, first, &mut wire),
     );
-    asked
+    Ok(asked?)
 }
