@@ -6,12 +6,14 @@
 #                     they hand on all of their words, each stream, the connection and the status, and
 #                     that a daemon serves many, silent and broken clients over real sockets; and types
 #                     the README's walk-through
-#   make install      proves and builds them, and puts munged into DESTDIR PREFIX/sbin, and the client
-#                     programs into DESTDIR PREFIX/bin
+#   make install      proves and builds them, and puts munged into DESTDIR PREFIX/sbin, the client
+#                     programs into DESTDIR PREFIX/bin, and the manual pages of docs/man into
+#                     DESTDIR PREFIX/share/man
 #   make uninstall    takes them away from there
 #   make check-install installs into a temporary folder, types the README's walk-through with what is
 #                     installed there, uninstalls, and sees that no file is left
-#   make check        looks over the documents, the tests' vectors and what is made from the sources
+#   make check        looks over the documents, the manual pages, the tests' vectors and what is made
+#                     from the sources
 #   make docs         makes again what documents have from the sources
 # Variables: PREFIX is where they are to run, DESTDIR a folder that stands for / while a package is
 # made, and CPU the processor to build for, in the kit's words: x86-64 (any), x86-64-v2 (what the kit
@@ -25,6 +27,9 @@ TOOLS = munge unmunge remunge
 BUILT_TOOLS = $(foreach tool,$(TOOLS),crates/$(tool)/out/$(tool))
 SBIN = $(DESTDIR)$(PREFIX)/sbin
 BIN = $(DESTDIR)$(PREFIX)/bin
+MAN = $(DESTDIR)$(PREFIX)/share/man
+PAGES = $(wildcard docs/man/*.[1-8])
+PUT_PAGES = $(foreach page,$(PAGES),$(MAN)/man$(subst .,,$(suffix $(page)))/$(notdir $(page)))
 
 .PHONY: run build try install uninstall check-install check docs
 
@@ -44,16 +49,17 @@ try: build
 install: build
 	install -D -m 0755 $(BUILT) $(SBIN)/munged
 	install -D -m 0755 -t $(BIN) $(BUILT_TOOLS)
+	for page in $(PAGES); do install -D -m 0644 -t $(MAN)/man$${page##*.} $$page || exit; done
 
 uninstall:
-	rm -f $(SBIN)/munged $(TOOLS:%=$(BIN)/%)
+	rm -f $(SBIN)/munged $(TOOLS:%=$(BIN)/%) $(PUT_PAGES)
 
 check-install:
 	tools/check-install $(PREFIX)
 
 check:
 	@mkdir -p build; failed=0; \
-	for tool in "crate-tree --check" "definitions --check" "vectors --check" option-example check-callers check-links; do \
+	for tool in "crate-tree --check" "definitions --check" "vectors --check" option-example check-manuals check-callers check-links; do \
 	    tools/$$tool >build/check.log || { failed=1; cat build/check.log; }; \
 	done; \
 	exit $$failed
