@@ -59,7 +59,8 @@ check-install:
 
 check:
 	@mkdir -p build; failed=0; \
-	for tool in "crate-tree --check" "definitions --check" "vectors --check" option-example check-manuals check-callers check-links; do \
+	for tool in "crate-tree --check" "definitions --check" "pictures --check" "vectors --check" \
+	    option-example check-manuals check-callers check-links; do \
 	    tools/$$tool >build/check.log || { failed=1; cat build/check.log; }; \
 	done; \
 	exit $$failed
@@ -67,4 +68,5 @@ check:
 docs:
 	tools/crate-tree
 	tools/definitions
+	tools/pictures
 	tools/check-links --fix
