@@ -50,13 +50,14 @@ left_more : (buf old : List ℕ) (done next : ℕ) → drop done buf ≡ drop do
 left_more buf old done next left on =
     sym (drop-drop 16 done buf ∙ ap (λ (n : ℕ). drop n buf) on) ∙ ap (drop 16) left ∙ drop-drop 16 done old ∙ ap (λ (n : ℕ). drop n old) on
 
--- this many bytes of the list are encrypted in place, the last cipher block is given
+-- this many bytes of the list are encrypted in place, the last cipher block is given: whatever
+-- comes behind the list goes on from there
 pub record IsSealedUpTo (key iv old buf before : List ℕ) (done : ℕ) : Type 0 where
-  pub so_far : cbc key iv old ≡ take done buf ++ cbc key before (drop done old)
+  pub so_far : (rest : List ℕ) → cbc key iv (old ++ rest) ≡ take done buf ++ cbc key before (drop done old ++ rest)
   pub left : drop done buf ≡ drop done old
 
 pub sealed_none : (key iv old : List ℕ) → IsSealedUpTo key iv old old iv 0
-sealed_none key iv old = record { so_far = refl; left = refl }
+sealed_none key iv old = record { so_far = λ rest. refl; left = refl }
 
 pub sealed_more : (key iv old buf before block now after : List ℕ) (done next : ℕ) → IsSealedUpTo key iv old buf before done
     → done + 16 ≤ length buf → block ≡ take 16 (drop done buf) → length block ≡ 16 → length now ≡ 16
@@ -64,16 +65,18 @@ pub sealed_more : (key iv old buf before block now after : List ℕ) (done next 
     → now ≡ cipher key (xor block before) → IsSealedUpTo key iv old after now next
 sealed_more key iv old buf before block now after done next sealed fits is long sixteen put on made =
     let left : drop next buf ≡ drop next old = left_more buf old done next sealed.left on in
-    let rest : drop done old ≡ block ++ drop next old =
+    let from : drop done old ≡ block ++ drop next old =
     sym sealed.left ∙ rest_is buf block now after done next fits is sixteen put on ∙ ap (λ xs. block ++ xs) left in
-    let step : cbc key before (drop done old) ≡ now ++ cbc key now (drop next old) =
-    ap (cbc key before) rest ∙ cbc_more key before block (drop next old) long
-    ∙ ap (λ c. c ++ cbc key c (drop next old)) (sym made) in
     record {
-      so_far =
-          sealed.so_far ∙ ap (λ xs. take done buf ++ xs) step
-          ∙ sym (append_assoc (take done buf) now (cbc key now (drop next old)))
-          ∙ ap (λ xs. xs ++ cbc key now (drop next old)) (sym (take_put buf block now after done next fits is sixteen put on));
+      so_far = λ rest.
+          let step : cbc key before (drop done old ++ rest) ≡ now ++ cbc key now (drop next old ++ rest) =
+          ap (λ xs. cbc key before (xs ++ rest)) from
+          ∙ ap (cbc key before) (append_assoc block (drop next old) rest)
+          ∙ cbc_more key before block (drop next old ++ rest) long
+          ∙ ap (λ c. c ++ cbc key c (drop next old ++ rest)) (sym made) in
+          sealed.so_far rest ∙ ap (λ xs. take done buf ++ xs) step
+          ∙ sym (append_assoc (take done buf) now (cbc key now (drop next old ++ rest)))
+          ∙ ap (λ xs. xs ++ cbc key now (drop next old ++ rest)) (sym (take_put buf block now after done next fits is sixteen put on));
       left = drop_put buf block now after done next fits is sixteen put on ∙ left;
     }
 
@@ -90,12 +93,20 @@ sealed_step key iv old buf before now kept n k sealed is_sixteen below same long
     subst (λ c. IsSealedUpTo key iv old (put_mid (16 * n) k buf now) c (16 * (n + 1))) (sym same_now)
     (subst (λ (j : ℕ). now ≡ cipher key (xor (take j (drop (16 * n) buf)) before) → IsSealedUpTo key iv old (put_mid (16 * n) j buf now) now (16 * (n + 1))) (sym is_sixteen) step made)
 
+-- at the end, what comes behind is chained to the last cipher block
+pub sealed_then : (key iv old buf before : List ℕ) (done : ℕ) → IsSealedUpTo key iv old buf before done → length buf ≡ length old
+    → length old ≤ done → (rest : List ℕ) → cbc key iv (old ++ rest) ≡ buf ++ cbc key before rest
+sealed_then key iv old buf before done sealed same all rest =
+    sealed.so_far rest
+    ∙ ap₂ (λ front left. front ++ cbc key before (left ++ rest)) (take_all done buf (omega arith)) (drop_all done old all)
+
 pub sealed_all : (key iv old buf before : List ℕ) (done : ℕ) → IsSealedUpTo key iv old buf before done → length buf ≡ length old
     → length old ≤ done → buf ≡ cbc key iv old
 sealed_all key iv old buf before done sealed same all =
     sym (
-    sealed.so_far
-    ∙ ap₂ ◌++◌ (take_all done buf (omega arith)) (ap (cbc key before) (drop_all done old all) ∙ cbc_none key before)
+    ap (cbc key iv) (sym (append-nil old))
+    ∙ sealed_then key iv old buf before done sealed same all []
+    ∙ ap (λ xs. buf ++ xs) (cbc_none key before)
     ∙ append-nil buf
     )
 

@@ -1,3 +1,5 @@
 mod Xor
 mod Chains
 mod Pads
+mod Parts
+mod Pieces

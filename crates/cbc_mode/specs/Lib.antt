@@ -1,2 +1,4 @@
 pub mod Cbc
+pub mod Chaining
 pub mod Padding
+pub mod WholeBlocks

@@ -1,5 +1,5 @@
-//! Cipher block chaining (NIST SP 800-38A, section 6.2) with AES, both ways in place, and the
-//! padding that it needs (RFC 5652, section 6.3). No call takes memory.
+//! Cipher block chaining (NIST SP 800-38A, section 6.2) with AES, both ways in place and out in
+//! parts, and the padding that it needs (RFC 5652, section 6.3). No call takes memory.
 //!
 //! A caller, which the test `caller` runs:
 //!
@@ -20,6 +20,7 @@
 #![tactic(auto)]
 
 mod block;
+mod cbc_out;
 pub mod laws;
 mod opening;
 mod padding;
@@ -27,6 +28,7 @@ mod sealing;
 #[cfg(test)]
 mod tests;
 
+pub use cbc_out::CbcOut;
 pub use opening::open_in_place;
 pub use padding::{pad_size, unpad};
 pub use sealing::seal_in_place;

@@ -1,8 +1,14 @@
-//! The standard's examples, cases of OpenSSL, and padding as Python's `cryptography` reads it.
+//! The standard's examples, cases of OpenSSL, and padding as Python's `cryptography` reads it; and
+//! messages in parts beside the same in place.
 
-use crate::{open_in_place, pad_size, seal_in_place, unpad};
+ghost use Rattle.std.specs.Prelude.{◌≤◌, length};
+
+use crate::{CbcOut, open_in_place, pad_size, seal_in_place, unpad};
 use aes_block::{DataKey, Key128, Key256};
+use munge_types::{NoMemory, Room};
+use std::alloc::{AllocError, Global};
 use std::process::Abort;
+use std::test::Fail;
 
 /// The vector of the standard's examples.
 const VECTOR: [u8; 16] = [0, 1, 2, 3, 4, 5, 6, 7, 8, 9, 10, 11, 12, 13, 14, 15];
@@ -78,6 +84,83 @@ fn no_block(rt: HostRuntime) {
     seal_in_place(&key, &VECTOR, &mut none);
     open_in_place(&key, &VECTOR, &mut none);
     assert_eq!(rt; none.len(), 0);
+}
+
+/// A whole of 49 bytes, in parts of 1, 15, 16 and 17 bytes and with its padding: the same 64 bytes as
+/// in place.
+#[test]
+fn parts_are_the_whole_in_place(rt: HostRuntime) -> Result<(), Fail> {
+    let mut whole = PLAIN;
+    for byte in whole[49..].iter_mut() {
+        *byte = 15;
+    }
+    for key in [
+        DataKey::Aes128(Key128::new(&[7; 16])),
+        DataKey::Aes256(Key256::new(&[9; 32])),
+    ] {
+        let mut room = Room::new(rt.alloc(), 128)?;
+        let mut out = CbcOut::new(&key, &VECTOR);
+        out.write(&PLAIN[..1], &mut room);
+        out.write(&PLAIN[1..16], &mut room);
+        out.write(&PLAIN[16..32], &mut room);
+        out.write(&PLAIN[32..49], &mut room);
+        out.finish(&mut room);
+        let mut sealed = whole;
+        seal_in_place(&key, &VECTOR, &mut sealed);
+        assert_eq!(rt; room.finish().as_slice(), sealed.as_slice());
+    }
+    Ok(())
+}
+
+/// So many bytes, which count and begin anew at 251.
+fn counted(alloc: Global, n: usize) -> Result<Vec<u8>, AllocError> {
+    let mut bytes = vec![in alloc; 0u8; n]?;
+    for (i, byte) in bytes.iter_mut().enumerate() {
+        *byte = (i % 251) as u8;
+    }
+    Ok(bytes)
+}
+
+/// The message in two parts, the first of 5 bytes, encrypted, with its padding.
+fn sealed_in_two(alloc: Global, key: &DataKey, plain: &[u8]) -> Result<Vec<u8>, NoMemory>
+    requires long { 5 ≤ length plain.now }
+    requires short { length plain.now ≤ 2000 }
+{
+    let mut room = Room::new(alloc, 2100)?;
+    let (first, second) = plain.split_at(5);
+    let mut out = CbcOut::new(key, &VECTOR);
+    out.write(first, &mut room);
+    out.write(second, &mut room);
+    out.finish(&mut room);
+    Ok(room.finish())
+}
+
+/// A message of several pieces and a part that begins inside a block, as in place.
+#[test]
+fn a_long_message(rt: HostRuntime) -> Result<(), Fail> {
+    let key = DataKey::Aes128(Key128::new(&[7; 16]));
+    let plain = counted(rt.alloc(), 1990)?;
+    let mut whole = plain.clone()?;
+    whole.extend_from_slice(&[10; 10])?;
+    assert!(rt; plain.len() == 1990 && whole.len() == 2000);
+    seal_in_place(&key, &VECTOR, &mut whole);
+    assert_eq!(rt;
+        sealed_in_two(rt.alloc(), &key, &plain)?.as_slice(),
+        whole.as_slice()
+    );
+    Ok(())
+}
+
+/// The padding of the empty message is a block.
+#[test]
+fn an_empty_message(rt: HostRuntime) -> Result<(), Fail> {
+    let key = DataKey::Aes128(Key128::new(&[7; 16]));
+    let mut padding = [16; 16];
+    seal_in_place(&key, &VECTOR, &mut padding);
+    let mut room = Room::new(rt.alloc(), 16)?;
+    CbcOut::new(&key, &VECTOR).finish(&mut room);
+    assert_eq!(rt; room.finish().as_slice(), padding.as_slice());
+    Ok(())
 }
 
 /// RFC 5652, section 6.3: 16 less the remainder, by hand.

@@ -1,3 +1,4 @@
+pub mod Begun
 pub mod Framing
 pub mod Sizes
 pub mod Spelling

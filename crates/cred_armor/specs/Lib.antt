@@ -1,3 +1,4 @@
+pub mod Armoring
 pub mod CredentialText
 pub mod RefusedText
 pub mod Trimming

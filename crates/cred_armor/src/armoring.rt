@@ -1,9 +1,10 @@
 //! From a body to its armour.
 
-ghost use Rattle.std.specs.Prelude.{◌≡◌, ◌+◌, ◌*◌, ◌++◌, [], ◌∷◌, length, replicate, IfOk};
+ghost use Rattle.std.specs.Prelude.{◌≡◌, ◌+◌, ◌*◌, ◌≤◌, ◌++◌, [], ◌∷◌, length, replicate, IfOk};
 ghost use Rattle.std.specs.Int.{div_ceil};
 ghost use Rattle.base64.specs.Engines.{standard};
 ghost use Rattle.base64.specs.GeneralPurpose.{encode_of};
+ghost use Rattle.cred_armor.specs.Armoring.{armor_size};
 ghost use Rattle.cred_armor.specs.CredentialText.{Spells, armor_of, closing_mark};
 
 use crate::marks::OPENING;
@@ -13,6 +14,14 @@ use std::alloc::Global;
 
 /// The closing mark, as a byte.
 const CLOSING: u8 = b':';
+
+/// How many bytes the armour of this many bytes has: the marks, and four for each begun three.
+pub fn armor_size(n: usize) -> usize
+    requires { n ≤ 2097152 }
+    ensures { result ≡ armor_size n }
+{
+    OPENING.len() + 4 * n.div_ceil(3) + 1
+}
 
 /// The armour of a body, with no spaces round it. One reservation takes the memory for all of it,
 /// and the body is spelled right into it.

@@ -1,6 +1,6 @@
 //! The armour of a credential: its body in base64 (RFC 4648, the standard alphabet with padding, in
-//! its canonical spelling) between `MUNGE:` and `:`, with spaces round them. `armor` writes it
-//! without spaces, and `unarmor` reads it back.
+//! its canonical spelling) between `MUNGE:` and `:`, with spaces round them. `armor` and `ArmorOut`
+//! write it without spaces, at once and part by part, and `unarmor` and `unarmor_in` read it back.
 //!
 //! A caller, which the test `caller` runs:
 //!
@@ -17,12 +17,15 @@
 //! ```
 #![tactic(auto)]
 
+mod armor_out;
 mod armoring;
+mod encoding;
 pub mod laws;
 mod marks;
 #[cfg(test)]
 mod tests;
 mod unarmoring;
 
-pub use armoring::armor;
-pub use unarmoring::{ArmorRefused, unarmor};
+pub use armor_out::ArmorOut;
+pub use armoring::{armor, armor_size};
+pub use unarmoring::{ArmorRefused, unarmor, unarmor_in};

@@ -1,7 +1,8 @@
 //! The armour of worked bodies. The base64 is that of RFC 4648, section 10, and the alphabet of its
 //! section 4.
 
-use crate::{ArmorRefused, armor, unarmor};
+use crate::{ArmorOut, ArmorRefused, armor, armor_size, unarmor, unarmor_in};
+use munge_types::{Put, Room};
 use std::alloc::Global;
 use std::process::Abort;
 use std::test::Fail;
@@ -47,6 +48,64 @@ fn bodies_of_0_to_5_bytes(rt: HostRuntime) -> Result<(), Fail> {
     Ok(())
 }
 
+/// The armour of a body that comes in these parts is this text, behind what the room held.
+fn assert_spelled(
+    rt: &impl Abort,
+    alloc: Global,
+    parts: [&[u8]; 3],
+    text: &[u8],
+) -> Result<(), Fail> {
+    let [first, second, third] = parts;
+    assert!(rt; first.len() <= 100 && second.len() <= 100 && third.len() <= 100);
+    let mut room = Room::new(alloc, armor_size(300) + 2)?;
+    room.put(b"to");
+    let mut out = ArmorOut::new(room, 300);
+    out.put(first);
+    out.put(second);
+    out.put(third);
+    let spelled = out.finish().finish();
+    assert_eq!(rt; spelled.as_slice(), text);
+    Ok(())
+}
+
+/// RFC 4648, section 10, in parts.
+#[test]
+fn bodies_in_parts(rt: HostRuntime) -> Result<(), Fail> {
+    let table: [([&[u8]; 3], &[u8]); 8] = [
+        ([b"", b"", b""], b"toMUNGE::"),
+        ([b"f", b"", b""], b"toMUNGE:Zg==:"),
+        ([b"", b"fo", b""], b"toMUNGE:Zm8=:"),
+        ([b"f", b"o", b"o"], b"toMUNGE:Zm9v:"),
+        ([b"fo", b"ob", b""], b"toMUNGE:Zm9vYg==:"),
+        ([b"f", b"ooba", b""], b"toMUNGE:Zm9vYmE=:"),
+        ([b"foob", b"a", b"r"], b"toMUNGE:Zm9vYmFy:"),
+        (
+            [b"foobar", b"", b"foobarf"],
+            b"toMUNGE:Zm9vYmFyZm9vYmFyZg==:",
+        ),
+    ];
+    for (parts, text) in table {
+        assert_spelled(&rt, rt.alloc(), parts, text)?;
+    }
+    Ok(())
+}
+
+/// A body of many pieces, in parts of 1 and of 2047 bytes, as at once.
+#[test]
+fn a_long_body_in_parts(rt: HostRuntime) -> Result<(), Fail> {
+    let mut body = [0; 2048];
+    for (i, byte) in body.iter_mut().enumerate() {
+        *byte = (i % 251) as u8;
+    }
+    assert_eq!(rt; armor_size(2048), 2739);
+    let mut out = ArmorOut::new(Room::new(rt.alloc(), 2739)?, 2048);
+    out.put(&body[..1]);
+    out.put(&body[1..]);
+    let text = out.finish().finish();
+    assert_eq!(rt; text.as_slice(), armor(rt.alloc(), &body)?.as_slice());
+    Ok(())
+}
+
 #[test]
 fn spaces_and_spellings(rt: HostRuntime) -> Result<(), Fail> {
     let table: [(&[u8], bool); 13] = [
@@ -77,6 +136,36 @@ fn spaces_and_spellings(rt: HostRuntime) -> Result<(), Fail> {
         }
     }
     Ok(())
+}
+
+/// The text spells this body, or none, inside a buffer of 32 bytes.
+fn assert_spells_in(rt: &impl Abort, text: &[u8], body: Option<&[u8]>) {
+    assert!(rt; text.len() <= 32);
+    let mut work = [0xff; 32];
+    let size = unarmor_in(&mut work, text);
+    assert_eq!(rt;
+        size.map(|size| &work[..size]),
+        body,
+        "the body of {text:?}"
+    );
+}
+
+/// RFC 4648, section 10, inside a buffer.
+#[test]
+fn bodies_inside_a_buffer(rt: HostRuntime) {
+    let table: [(&[u8], Option<&[u8]>); 8] = [
+        (b"MUNGE::", Some(b"")),
+        (b"MUNGE:Zg==:", Some(b"f")),
+        (b"MUNGE:Zm8=:", Some(b"fo")),
+        (b" \tMUNGE:Zm9vYmFy:\r\n", Some(b"foobar")),
+        (b"MUNGE:Zh==:", None),
+        (b"MUNGE:Zg=:", None),
+        (b"Zg==:", None),
+        (b"", None),
+    ];
+    for (text, body) in table {
+        assert_spells_in(&rt, text, body);
+    }
 }
 
 /// The caller that the crate's documentation shows.

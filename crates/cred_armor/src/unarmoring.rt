@@ -1,6 +1,7 @@
 //! From a text to the body that it spells.
 
-ghost use Rattle.std.specs.Prelude.{◌≡◌, ℕ, List, Some, IfSome, IfNone, IfOk, IsErrOf, MatchResult};
+ghost use Rattle.std.specs.Prelude.{◌≡◌, ◌≤◌, ℕ, List, Some, IfSome, IfNone, IfOk, IsErrOf, MatchResult, length, take};
+ghost use Rattle.base64.specs.GeneralPurpose.{IsBytes};
 ghost use Rattle.cred_armor.specs.CredentialText.{is_space, Frames, IsFramed, Spells};
 ghost use Rattle.cred_armor.specs.RefusedText.{refused_text};
 ghost use Rattle.cred_armor.specs.Trimming.{trim_front, trim_back};
@@ -96,4 +97,35 @@ pub fn unarmor(alloc: Global, text: &[u8]) -> Result<Vec<u8>, ArmorRefused>
         Err(DecodeAllocError::OutOfMemory) => Err(ArmorRefused::NoMemory),
         Err(DecodeAllocError::DecodeError(_)) => Err(ArmorRefused::NotArmor),
     }
+}
+
+/// Decodes the one body that the text spells into the front of a buffer that is at least as long as
+/// the text: how many bytes the body has, and None where the text spells none. The text is read as
+/// by `unarmor`. What the buffer holds behind the body, or where there is none, is not said. It
+/// takes no memory.
+pub fn unarmor_in(work: &mut [u8], text: &[u8]) -> Option<usize>
+    requires room { length text.now ≤ length work.old }
+    ensures size { length work.new ≡ length work.old }
+    ensures within { IfSome result (λ size. size ≤ length work.new) }
+    ensures spelled { IfSome result (λ size. Spells text.now (take size work.new)) }
+    ensures unspelled { IfNone result ((body : List ℕ) → ¬ Spells text.now body) }
+{
+    let Some(inside) = framed(text) else {
+        return None;
+    };
+    match STANDARD.decode_slice_unchecked(inside, work) {
+        Ok(size) => {
+            are_bytes(inside);
+            are_bytes(work);
+            Some(size)
+        }
+        Err(_) => None,
+    }
+}
+
+/// Does nothing: what the bytes of a slice are.
+fn are_bytes(slice: &[u8])
+    ensures { IsBytes slice.now }
+{
+    let _slice = slice;
 }

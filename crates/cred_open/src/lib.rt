@@ -5,6 +5,7 @@
 pub mod laws;
 mod mac;
 mod opened;
+mod opened_in;
 mod opening;
 #[cfg(test)]
 mod tests;
@@ -12,4 +13,5 @@ mod unsealing;
 
 pub use cred_outer::OuterRefused;
 pub use opened::Opened;
-pub use opening::{OpenRefused, open_text};
+pub use opened_in::OpenedIn;
+pub use opening::{OpenRefused, open_in, open_text};

@@ -5,6 +5,7 @@ ghost use Rattle.cred_open.specs.Credential.{expiry_of};
 ghost use Rattle.cred_inner.specs.Inner.{content_of};
 ghost use Rattle.cred_inner.specs.InnerPart.{payload_limit};
 
+use crate::OpenedIn;
 use cred_inner::Inner;
 use munge_types::{Cipher, MacBytes, MacKind, Pair};
 use std::marker::Model;
@@ -64,10 +65,7 @@ impl Opened {
         ensures content { content_of result ≡ self.now.content }
         ensures payload { length result.payload.now ≤ payload_limit }
     {
-        Inner {
-            payload: &self.body[self.payload_at..],
-            ..self.head
-        }
+        self.lent().inner()
     }
 
     /// What the replay state remembers of it, where no more than this time to live is granted, in
@@ -76,10 +74,21 @@ impl Opened {
         ensures mac { result.mac ≡ self.now.mac }
         ensures expiry { result.expiry ≡ expiry_of max_ttl self.now }
     {
-        let ttl = self.head.ttl.min(max_ttl);
-        Pair {
-            expiry: u64::from(self.head.time) + u64::from(ttl),
+        self.lent().pair(max_ttl)
+    }
+
+    /// The same credential, with a payload that is borrowed from this one.
+    pub fn lent(&self) -> OpenedIn<'_>
+        ensures { result ≡ self.now }
+    {
+        OpenedIn {
+            cipher: self.cipher,
+            kind: self.kind,
             mac: self.mac,
+            inner: Inner {
+                payload: &self.body[self.payload_at..],
+                ..self.head
+            },
         }
     }
 }

@@ -3,7 +3,7 @@
 
 mod usual_credential;
 
-use crate::{OpenRefused, Opened, open_text};
+use crate::{OpenRefused, Opened, open_in, open_text};
 use base64::engine::general_purpose::STANDARD;
 use munge_types::{Cipher, MacKind};
 use sha1::Sha1;
@@ -42,10 +42,17 @@ fn assert_refused(
     rule: u8,
     status: u8,
 ) -> Result<(), Fail> {
-    let Err(OpenRefused::Failed(broken)) = open_text(alloc, &Subkeys::of(&KEY)?, text) else {
+    let subkeys = Subkeys::of(&KEY)?;
+    let Err(OpenRefused::Failed(broken)) = open_text(alloc, &subkeys, text) else {
         assert!(rt; false, "opened, or no memory: {text:?}");
         return Ok(());
     };
+    let mut work = vec![in alloc; 0u8; text.len()]?;
+    let inside = open_in(&subkeys, &mut work, text);
+    assert!(rt;
+        matches!(inside, Err(same) if same == broken),
+        "inside a buffer: {text:?}"
+    );
     assert_eq!(rt; broken.rule.number(), rule, "the rule of {text:?}");
     assert_eq!(rt; broken.status.number(), status, "the status of {text:?}");
     Ok(())
@@ -263,5 +270,43 @@ fn altered_credentials(rt: HostRuntime) -> Result<(), Fail> {
     inner.push(0)?;
     assert_refused(&rt, alloc, &sealed(alloc, &inner)?, 9, 8)?;
     assert_refused(&rt, alloc, &sealed(alloc, HEAD)?, 9, 8)?;
+    Ok(())
+}
+
+/// Two in a row inside one buffer that is longer than either.
+#[test]
+fn opened_inside_a_longer_buffer(rt: HostRuntime) -> Result<(), Fail> {
+    let subkeys = Subkeys::of(&KEY)?;
+    let mut work = vec![in rt.alloc(); 255u8; 500]?;
+    let usual = open_in(&subkeys, &mut work, USUAL)?;
+    assert_eq!(rt;
+        (usual.cipher(), usual.kind()),
+        (Cipher::Aes128, MacKind::Sha256)
+    );
+    assert_eq!(rt; usual.inner().payload, b"hello".as_slice());
+    let plain = open_in(&subkeys, &mut work, CREDENTIAL)?;
+    assert_eq!(rt;
+        (plain.cipher(), plain.kind()),
+        (Cipher::None, MacKind::Sha256)
+    );
+    assert_eq!(rt; plain.inner().payload, b"hello".as_slice());
+    Ok(())
+}
+
+#[test]
+fn opened_inside_a_buffer(rt: HostRuntime) -> Result<(), Fail> {
+    let subkeys = Subkeys::of(&KEY)?;
+    for text in [CREDENTIAL, USUAL] {
+        let opened = opened(rt.alloc(), text)?;
+        let mut work = vec![in rt.alloc(); 255u8; text.len()]?;
+        let Ok(inside) = open_in(&subkeys, &mut work, text) else {
+            assert!(rt; false, "refused: {text:?}");
+            return Ok(());
+        };
+        assert_eq!(rt; inside.cipher(), opened.cipher());
+        assert_eq!(rt; inside.kind(), opened.kind());
+        assert_eq!(rt; inside.inner(), opened.inner());
+        assert_eq!(rt; inside.pair(3600), opened.pair(3600));
+    }
     Ok(())
 }

@@ -1,23 +1,18 @@
--- What a sealed text is, and how long.
-use Rattle.std.proofs.Common.{◌≡◌, ℕ, ◌+◌, ◌*◌, ◌≤◌, List, length, take, ◌∙◌, ap, arith}
-use Rattle.std.specs.Int.{div_ceil}
-use Rattle.std.proofs.lemmas.Grind.{div_ceil_times}
+-- What a sealed text is, and where it stands.
+use Rattle.std.proofs.Common.{◌≡◌, ℕ, List, length, take, drop, ◌++◌, refl, ◌∙◌, ap}
+use Rattle.std.proofs.lemmas.List.{drop_at}
 use Rattle.std.specs.declared.option.Option.TheVariants.{Some}
-use Rattle.munge_types.specs.Algorithms.{mac_size}
 use Rattle.munge_types.specs.declared.algorithms.Cipher.{Cipher}
-use Rattle.munge_types.specs.declared.algorithms.Cipher.TheVariants as ciphers
 use Rattle.munge_types.specs.declared.algorithms.MacKind.{MacKind}
-use Rattle.munge_types.specs.declared.algorithms.MacKind.TheVariants.{Sha1, Sha256, Sha512}
 use Rattle.munge_types.specs.declared.identity.Identity.{Identity}
 use Rattle.munge_types.specs.declared.settings.Settings.{Settings}
 use Rattle.cred_armor.specs.CredentialText.{armor_of}
-use Rattle.cred_inner.specs.InnerPart.{Content, inner_part, payload_limit}
+use Rattle.cred_inner.specs.InnerPart.{Content, inner_part}
 use Rattle.cred_outer.specs.OuterPart.{vector_size}
 use Rattle.cred_open.specs.Body.{IsBody}
 use Rattle.cred_seal.specs.Asked.{Asked, cipher_asked, mac_asked}
-use Rattle.cred_seal.specs.PlainPart.{body_size}
 use Rattle.cred_seal.specs.SealedContent.{sealed_content}
-use Rattle.cred_seal.specs.SealedText.{IsSealed, text_limit}
+use Rattle.cred_seal.specs.SealedText.{IsSealed}
 
 -- the armour of a body that says what was asked
 pub sealed_as : (key : List ℕ) (settings : Settings) (asked : Asked) (who : Identity) (moment : ℕ) (salt vector text read body : List ℕ) (cipher : Cipher) (kind : MacKind) (content : Content)
@@ -36,22 +31,7 @@ sealed_as key settings asked who moment salt vector text read body cipher kind c
       armored = armored ∙ ap armor_of same;
     }
 
-mac_within : (kind : MacKind) → mac_size kind ≤ 64
-mac_within Sha1 = omega arith
-mac_within Sha256 = omega arith
-mac_within Sha512 = omega arith
-
--- a body of the longest MAC and the largest payload under AES
-body_within : (cipher : Cipher) (kind : MacKind) (size : ℕ) → size ≤ payload_limit → body_size cipher kind (41 + size) ≤ 1048709
-body_within ciphers.None kind size within = omega (arith, mac_within kind)
-body_within ciphers.Aes128 kind size within = omega (arith, mac_within kind)
-body_within ciphers.Aes256 kind size within = omega (arith, mac_within kind)
-
--- its base64 between the marks
-pub text_within : (cipher : Cipher) (kind : MacKind) (payload text read body : List ℕ) → length payload ≤ payload_limit
-    → length body ≡ body_size cipher kind (41 + length payload) → read ≡ body
-    → length (armor_of read) ≡ 7 + 4 * div_ceil (length read) 3 → text ≡ armor_of read
-    → length text ≤ text_limit
-text_within cipher kind payload text read body within size same armor_size armored =
-    let bound = div_ceil_times (length read) 3 (omega arith) in
-    omega (arith, bound.1, body_within cipher kind (length payload) within, size, ap length same, armor_size, ap length armored)
+-- an armour that was appended, as it stands behind what was there before
+pub armor_behind : (old base text whole : List ℕ) → base ≡ old → whole ≡ base ++ text → drop (length old) whole ≡ text
+armor_behind old base text whole same is =
+    ap (drop (length old)) (is ∙ ap (λ (l : List ℕ). l ++ text) same) ∙ drop_at old text (length old) refl

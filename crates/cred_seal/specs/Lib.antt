@@ -5,5 +5,7 @@ pub mod RefusedText
 pub mod RoundTrip
 pub mod SealRefused
 pub mod SealedContent
+pub mod SealedInto
 pub mod SealedText
+pub mod TextSize
 pub mod WorkedDice

@@ -1,6 +1,6 @@
 //! What a request asks for, looked up and checked.
 
-ghost use Rattle.std.specs.Prelude.{◌≡◌, ◌≤◌, false, length, None, Some, IfOk, IfErr, IfSome, OnOk};
+ghost use Rattle.std.specs.Prelude.{◌≡◌, ◌≢◌, ◌≤◌, false, length, None, Some, IfOk, IfErr, IfSome, OnOk};
 ghost use Rattle.cred_inner.specs.InnerPart.{payload_limit};
 ghost use Rattle.munge_types.specs.Algorithms.{cipher_number, mac_number};
 ghost use Rattle.cred_outer.specs.OuterRules.{key_too_long};
@@ -25,6 +25,7 @@ const LONGEST_TTL: u32 = u32::MAX;
 pub(crate) fn algorithms_of(request: &SealRequest<'_>) -> Result<(Cipher, MacKind), SealRefused>
     ensures refused { IfErr result (λ refused.
         first_refusal (asked_of request.now) ≡ Some refused) }
+    ensures known { IfErr result (λ refused. refused ≢ SealRefused.NoMemory) }
     ensures unrefused { OnOk result (first_refusal (asked_of request.now) ≡ None) }
     ensures cipher { IfOk result (λ algorithms.
         cipher_asked request.now.cipher ≡ Some algorithms.0) }

@@ -10,4 +10,4 @@ mod sealing;
 
 pub use dice::{Dice, Drawn};
 pub use request::SealRequest;
-pub use sealing::{SealRefused, seal};
+pub use sealing::{SealRefused, SealedInto, seal, seal_into, text_size};

@@ -10,7 +10,7 @@ mod reply;
 mod tests;
 mod world;
 
-pub use prepared::{Prepared, prepare};
+pub use prepared::{Prepared, prepare, prepare_in};
 pub use ready::{Ready, complete};
 pub use reply::Reply;
 pub use world::World;

@@ -1,6 +1,6 @@
 //! What a text comes to before the history is asked.
 
-ghost use Rattle.std.specs.Prelude.{◌≡◌, IfOk};
+ghost use Rattle.std.specs.Prelude.{◌≡◌, ◌≤◌, length, IfOk};
 ghost use Rattle.cred_inner.specs.Inner.{content_of};
 ghost use Rattle.cred_open.specs.OpeningRules.{first_broken};
 ghost use Rattle.decode_rules.specs.CallerRules.{belongs_to, caller_rules};
@@ -12,7 +12,7 @@ ghost use Rattle.decode_rules.specs.Terms.{IsMadeOf, WorldFiles, terms_of};
 use crate::reply::{refusal, showing, unsaid};
 use crate::{Ready, Reply, World};
 use cred_inner::Inner;
-use cred_open::{OpenRefused, Opened, OuterRefused, open_text};
+use cred_open::{OpenRefused, OpenedIn, OuterRefused, open_in, open_text};
 use munge_types::{Identity, NoMemory, Rule, Status};
 use std::alloc::Global;
 
@@ -43,36 +43,65 @@ pub fn prepare(
 {
     match open_text(alloc, &world.subkeys, text) {
         Ok(opened) => {
-            let prepared = judge(alloc, world, who, moment, &opened)?;
+            let prepared = judge(Vec::new(alloc), world, who, moment, &opened.lent())?;
             Ok(prepared)
         }
         Err(OpenRefused::Failed(broken)) => {
-            let reply = refusal(alloc, broken)?;
+            let reply = refusal(Vec::new(alloc), broken)?;
             Ok(Prepared::Refused(reply))
         }
         Err(OpenRefused::NoMemory) => Err(NoMemory),
     }
 }
 
-/// Goes on with a credential that breaks none of the rules 1 to 9.
-fn judge(
-    alloc: Global,
+/// The same, where the text is opened inside a buffer of the caller's that is at least as long as the
+/// text, and the reply is made in the memory of a vector that is given away. Only what that lacks is
+/// taken. What the buffer holds then is not said, and what the vector held is dropped.
+pub fn prepare_in(
+    memory: Vec<u8>,
     world: &World,
     who: Identity,
     moment: u32,
-    opened: &Opened,
+    work: &mut [u8],
+    text: &[u8],
+) -> Result<Prepared, NoMemory>
+    requires room { length text.now ≤ length work.old }
+
+    // For all files that the world is made of.
+    ensures { (files : WorldFiles) → IsMadeOf world.now files
+        → IfOk result (IsPrepared (terms_of world.now who files) moment text.now) }
+{
+    match open_in(&world.subkeys, work, text) {
+        Ok(opened) => {
+            let prepared = judge(memory, world, who, moment, &opened)?;
+            Ok(prepared)
+        }
+        Err(broken) => {
+            let reply = refusal(memory, broken)?;
+            Ok(Prepared::Refused(reply))
+        }
+    }
+}
+
+/// Goes on with a credential that breaks none of the rules 1 to 9.
+fn judge(
+    memory: Vec<u8>,
+    world: &World,
+    who: Identity,
+    moment: u32,
+    opened: &OpenedIn<'_>,
 ) -> Result<Prepared, NoMemory>
     ensures { (files : WorldFiles) → IsMadeOf world.now files
         → IfOk result (IsJudged (terms_of world.now who files) moment opened.now) }
 {
     match broken_rule(world, who, moment, &opened.inner()) {
         None => {
-            let frame = unsaid(alloc, opened)?;
+            let frame = unsaid(memory, opened)?;
             let pair = opened.pair(world.settings.max_ttl);
             Ok(Prepared::Ready(Ready { pair, frame }))
         }
         Some(broken) => {
-            let reply = barred(alloc, broken, opened)?;
+            let reply = barred(memory, broken, opened)?;
             Ok(Prepared::Refused(reply))
         }
     }
@@ -80,14 +109,14 @@ fn judge(
 
 /// The reply to a credential that breaks this rule. It shows the credential where the rule is that
 /// on its time.
-fn barred(alloc: Global, broken: OuterRefused, opened: &Opened) -> Result<Reply, NoMemory>
+fn barred(memory: Vec<u8>, broken: OuterRefused, opened: &OpenedIn<'_>) -> Result<Reply, NoMemory>
     ensures { IfOk result (λ reply.
         reply ≡ refused_answer broken.rule broken.status (shown_by broken.rule opened.now)) }
 {
     if broken.rule == Rule::TIME {
-        showing(alloc, broken, opened)
+        showing(memory, broken, opened)
     } else {
-        refusal(alloc, broken)
+        refusal(memory, broken)
     }
 }
 

@@ -8,9 +8,8 @@ ghost use Rattle.wire_msg.specs.FrameHead.{content_size, message_head, reply_siz
 ghost use Rattle.wire_msg.specs.Spelling.{frame_of, reply_head};
 ghost use Rattle.wire_msg.specs.declared.kind.Kind.TheVariants.{DecodeReply};
 
-use cred_open::{Opened, OuterRefused};
+use cred_open::{OpenedIn, OuterRefused};
 use munge_types::{NoMemory, Room, Status};
-use std::alloc::Global;
 use std::marker::Model;
 use wire_msg::{
     CONTENT_SIZE, ContentFields, HEAD_SIZE, Kind, REPLY_SIZE, content_head, message_head,
@@ -74,11 +73,11 @@ impl Reply {
 }
 
 /// The reply by a rule that is broken, which shows nothing of the text.
-pub(crate) fn refusal(alloc: Global, broken: OuterRefused) -> Result<Reply, NoMemory>
+pub(crate) fn refusal(memory: Vec<u8>, broken: OuterRefused) -> Result<Reply, NoMemory>
     ensures { IfOk result (λ reply. reply ≡ refused_answer broken.rule broken.status None) }
 {
     let rule = broken.rule.number();
-    let front = front_with_room(alloc, broken.status, rule, NOWHERE, 0)?;
+    let front = front_with_room(memory, broken.status, rule, NOWHERE, 0)?;
     Ok(Reply {
         frame: front.finish(),
         status: broken.status,
@@ -88,15 +87,15 @@ pub(crate) fn refusal(alloc: Global, broken: OuterRefused) -> Result<Reply, NoMe
 
 /// The reply by a rule that is broken, which shows the credential.
 pub(crate) fn showing(
-    alloc: Global,
+    memory: Vec<u8>,
     broken: OuterRefused,
-    opened: &Opened,
+    opened: &OpenedIn<'_>,
 ) -> Result<Reply, NoMemory>
     ensures { IfOk result (λ reply.
         reply ≡ refused_answer broken.rule broken.status (Some opened.now)) }
 {
     let rule = broken.rule.number();
-    let frame = frame_showing(alloc, broken.status, rule, NOWHERE, opened)?;
+    let frame = frame_showing(memory, broken.status, rule, NOWHERE, opened)?;
     Ok(Reply {
         frame,
         status: broken.status,
@@ -105,28 +104,28 @@ pub(crate) fn showing(
 }
 
 /// The frame of a reply that shows the credential, of which nothing is said yet.
-pub(crate) fn unsaid(alloc: Global, opened: &Opened) -> Result<Vec<u8>, NoMemory>
+pub(crate) fn unsaid(memory: Vec<u8>, opened: &OpenedIn<'_>) -> Result<Vec<u8>, NoMemory>
     ensures { IfOk result (λ frame. frame.items ≡ unsaid_frame opened.now) }
 {
-    let frame = frame_showing(alloc, Status::Success, 0, 0, opened)?;
+    let frame = frame_showing(memory, Status::Success, 0, 0, opened)?;
     Ok(frame)
 }
 
-/// The frame of the reply that says this and shows the credential. One reservation takes its
-/// memory, and the payload is copied once.
+/// The frame of the reply that says this and shows the credential, in the memory of this vector as
+/// far as that goes. One reservation takes what is missing, and the payload is copied once.
 fn frame_showing(
-    alloc: Global,
+    memory: Vec<u8>,
     status: Status,
     rule: u8,
     place: u64,
-    opened: &Opened,
+    opened: &OpenedIn<'_>,
 ) -> Result<Vec<u8>, NoMemory>
     ensures { IfOk result (λ frame.
         frame.items ≡ frame_of (message_of status rule place (Some opened.now))) }
 {
     let inner = opened.inner();
     let size = CONTENT_SIZE + inner.payload.len();
-    let mut frame = front_with_room(alloc, status, rule, place, size)?;
+    let mut frame = front_with_room(memory, status, rule, place, size)?;
     frame.put(&content_head(&ContentFields {
         cipher: opened.cipher().number(),
         kind: opened.kind().number(),
@@ -144,7 +143,7 @@ fn frame_showing(
 
 /// The front of a reply's frame, with room for a content of this size.
 fn front_with_room(
-    alloc: Global,
+    memory: Vec<u8>,
     status: Status,
     rule: u8,
     place: u64,
@@ -155,7 +154,7 @@ fn front_with_room(
         IfOk result (λ room. room.bytes ≡ head ++ reply_head (status_number status) rule place) }
     ensures spare { IfOk result (λ room. room.spare ≡ content) }
 {
-    let mut room = Room::new(alloc, FRONT_SIZE + content)?;
+    let mut room = Room::over(memory, FRONT_SIZE + content)?;
     room.put(&message_head(Kind::DecodeReply, (REPLY_SIZE + content) as u32));
     room.put(&reply_head(status.number(), rule, place));
     Ok(room)

@@ -1,6 +1,6 @@
 //! What every crate of munged speaks of: the numbers of the format, identities and settings, pairs,
-//! histories with their verdicts, the trait of replay structures, and the two refusals that carry
-//! nothing.
+//! histories with their verdicts, the traits of replay structures and of what takes bytes, and the
+//! two refusals that carry nothing.
 #![tactic(auto)]
 
 mod algorithms;
@@ -9,6 +9,7 @@ mod identity;
 pub mod laws;
 mod mac_bytes;
 mod pair;
+mod put;
 mod refusal;
 mod replay;
 mod room;
@@ -21,6 +22,7 @@ pub use history::{Event, Verdict};
 pub use identity::Identity;
 pub use mac_bytes::MacBytes;
 pub use pair::Pair;
+pub use put::Put;
 pub use refusal::{Failed, NoMemory};
 pub use replay::{Purged, Replay};
 pub use room::Room;

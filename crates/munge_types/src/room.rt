@@ -2,7 +2,7 @@
 
 ghost use Rattle.std.specs.Prelude.{◌≡◌, ◌+◌, ◌≤◌, [], ◌++◌, length, IfOk};
 
-use crate::NoMemory;
+use crate::{NoMemory, Put};
 use std::alloc::Global;
 use std::marker::Model;
 
@@ -36,6 +36,24 @@ impl Room {
         Ok(Room { buffer, spare: n })
     }
 
+    /// How many bytes were put.
+    pub fn filled(&self) -> usize
+        ensures { result ≡ length self.now.bytes }
+    {
+        self.buffer.len()
+    }
+
+    /// An empty buffer with room for this many bytes, in the memory of this one as far as that goes.
+    /// What it held is dropped.
+    pub fn over(mut buffer: Vec<u8>, n: usize) -> Result<Room, NoMemory>
+        ensures empty { IfOk result (λ room. room.bytes ≡ []) }
+        ensures spare { IfOk result (λ room. room.spare ≡ n) }
+    {
+        buffer.clear();
+        buffer.reserve_exact(n)?;
+        Ok(Room { buffer, spare: n })
+    }
+
     /// Appends the part, which has to fit. It takes no memory.
     pub fn put(&mut self, part: &[u8])
         requires { length part.now ≤ self.old.spare }
@@ -52,5 +70,19 @@ impl Room {
     {
         let Room { buffer, spare: _ } = self;
         buffer
+    }
+}
+
+impl Put for Room {
+    ghost use Rattle.std.specs.Prelude.{[]};
+
+    ghost taken = { λ room. room.bytes };
+
+    ghost base = { λ _. [] };
+
+    ghost spare = { λ room. room.spare };
+
+    fn put(&mut self, part: &[u8]) {
+        Room::put(self, part);
     }
 }

@@ -1,5 +1,7 @@
 //! Worked values.
 
+ghost use Rattle.std.specs.Prelude.{◌≡◌, ◌+◌, ◌≤◌, ◌++◌, length};
+
 use super::*;
 use std::cmp::Ordering;
 use std::collections::HashSet;
@@ -118,6 +120,42 @@ fn a_room_takes_what_it_was_made_for(rt: HostRuntime) -> Result<(), Fail> {
     assert_eq!(rt; bytes.as_slice(), b"MUNGE".as_slice());
     let empty = Room::new(rt.alloc(), 0)?.finish();
     assert_eq!(rt; empty.len(), 0);
+    Ok(())
+}
+
+#[test]
+fn a_room_over_a_buffer_begins_empty(rt: HostRuntime) -> Result<(), Fail> {
+    let used = Vec::from_slice(rt.alloc(), b"of the one before")?;
+    let mut room = Room::over(used, 5)?;
+    assert_eq!(rt; room.filled(), 0);
+    room.put(b"MUN");
+    assert_eq!(rt; room.filled(), 3);
+    room.put(b"GE");
+    assert_eq!(rt; room.filled(), 5);
+    let mut longer = Room::over(room.finish(), 11)?;
+    longer.put(b"MUNGE:Zg==:");
+    let bytes = longer.finish();
+    assert_eq!(rt; bytes.as_slice(), b"MUNGE:Zg==:".as_slice());
+    Ok(())
+}
+
+/// Puts both parts into whatever takes them.
+fn put_both<P: Put>(to: &mut P, first: &[u8], second: &[u8])
+    requires { length first.now + length second.now ≤ P.spare to.old }
+    ensures taken { P.taken to.new ≡ P.taken to.old ++ first.now ++ second.now }
+    ensures base { P.base to.new ≡ P.base to.old }
+{
+    to.put(first);
+    to.put(second);
+}
+
+#[test]
+fn a_room_takes_parts_as_any_taker_does(rt: HostRuntime) -> Result<(), Fail> {
+    let mut room = Room::new(rt.alloc(), 11)?;
+    room.put(b"MUNGE:");
+    put_both(&mut room, b"Zg", b"==:");
+    let bytes = room.finish();
+    assert_eq!(rt; bytes.as_slice(), b"MUNGE:Zg==:".as_slice());
     Ok(())
 }
 

@@ -1,5 +1,6 @@
 -- What an answer to a request of each kind leaves of a session.
-use Rattle.std.proofs.Common.{◌≡◌, ℕ, true, List, [], ◌∷◌, ◌++◌, Option, Some, refl, sym, ap, ◌∙◌, subst, inr}
+use Rattle.std.proofs.Common.{◌≡◌, ℕ, ◌+◌, true, List, [], ◌∷◌, ◌++◌, Option, Some, refl, sym, ap, ◌∙◌, subst, inr, length, take, drop, arith}
+use Rattle.std.proofs.lemmas.List.{length-drop, take-append-drop}
 use Rattle.std.specs.Io.KnownBytes.{Consumes, Keeps}
 use Rattle.munge_types.specs.StandsFor.{Remembered, Stands}
 use Rattle.munge_types.specs.Status.{status_number}
@@ -107,3 +108,13 @@ left_begun session own request whole moment readings readings' state request_is 
       takes = takes;
       stands = subst (λ r. Stands state (session.base ++ before_answer session.base own moment r)) (sym request_is) stands;
     })
+
+-- what stands behind a front completes it
+pub whole_of : (front whole : List ℕ) → take (length front) whole ≡ front → front ++ drop (length front) whole ≡ whole
+whole_of front whole begins =
+    subst (λ (xs : List ℕ). xs ++ drop (length front) whole ≡ whole) begins (take-append-drop (length front) whole)
+
+-- so many bytes stand behind a front
+pub size_behind : (front whole : List ℕ) (size : ℕ) → length whole ≡ length front + size
+    → length (drop (length front) whole) ≡ size
+size_behind front whole size is = simp length-drop (omega (arith, is))

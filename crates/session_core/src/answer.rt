@@ -15,6 +15,7 @@ ghost use Rattle.session_core.specs.Seed.{place_of, seed_of};
 ghost use Rattle.session_core.specs.Session.{session_of};
 ghost use Rattle.session_core.specs.Turn.{IsAnswered, IsAt, LeavesUnanswered, stage_of};
 
+use crate::Rooms;
 use crate::decode::decode;
 use crate::encode::encode;
 use byte_io::Clock;
@@ -22,7 +23,7 @@ use cred_seal::Dice;
 use decode_rules::World;
 use munge_types::{Identity, NoMemory, Replay, Status};
 use std::alloc::Global;
-use wire_msg::{FrameRefused, Message, frame};
+use wire_msg::{FrameRefused, Message, frame_in};
 
 /// A reply, and how many events the session has made when it is given.
 #[derive(Drop)]
@@ -44,6 +45,7 @@ pub(crate) enum Unanswered {
 /// the clock is read once.
 pub(crate) fn make_answer<C: Clock, R: Replay>(
     alloc: Global,
+    rooms: &mut Rooms,
     clock: &mut C,
     replay: &mut R,
     dice: &mut Option<Dice>,
@@ -82,7 +84,7 @@ pub(crate) fn make_answer<C: Clock, R: Replay>(
             let Ok(moment) = clock.now() else {
                 return Err(Unanswered::ClockFault);
             };
-            match encode(alloc, dice, who, world, moment, ask) {
+            match encode(alloc, rooms, dice, who, world, moment, ask) {
                 Ok(reply) => Ok(Answer { reply, entries }),
                 Err(NoMemory) => Err(Unanswered::NoMemory),
             }
@@ -91,12 +93,12 @@ pub(crate) fn make_answer<C: Clock, R: Replay>(
             let Ok(moment) = clock.now() else {
                 return Err(Unanswered::ClockFault);
             };
-            match decode(alloc, replay, who, world, moment, text.bytes(), entries) {
+            match decode(rooms, replay, who, world, moment, text.bytes(), entries) {
                 Ok(answer) => Ok(answer),
                 Err(NoMemory) => Err(Unanswered::NoMemory),
             }
         }
-        Message::Stop => match bye(alloc, who) {
+        Message::Stop => match bye(rooms.frame(), who) {
             Ok(reply) => Ok(Answer { reply, entries }),
             Err(NoMemory) => Err(Unanswered::NoMemory),
         },
@@ -104,8 +106,9 @@ pub(crate) fn make_answer<C: Clock, R: Replay>(
     }
 }
 
-/// The answer to Stop: only a caller who has control may stop.
-pub(crate) fn bye(alloc: Global, who: Identity) -> Result<Vec<u8>, NoMemory>
+/// The answer to Stop, in the memory of this vector as far as that goes: only a caller who has
+/// control may stop.
+pub(crate) fn bye(memory: Vec<u8>, who: Identity) -> Result<Vec<u8>, NoMemory>
     ensures { let status = status_number (stop_status who) in
         IfOk result (λ reply. reply.items ≡ frame_of (Bye status)) }
 {
@@ -114,7 +117,7 @@ pub(crate) fn bye(alloc: Global, who: Identity) -> Result<Vec<u8>, NoMemory>
     } else {
         Status::Unauthorized
     };
-    match frame(alloc, &Message::Bye(status.number())) {
+    match frame_in(memory, &Message::Bye(status.number())) {
         Ok(reply) => Ok(reply),
         Err(FrameRefused::NoMemory) => Err(NoMemory),
         Err(FrameRefused::TooLong(_)) => unreachable!(),

@@ -9,10 +9,10 @@ ghost use Rattle.session_core.specs.Answering.{before_decode};
 ghost use Rattle.session_core.specs.Session.{session_of};
 ghost use Rattle.session_core.specs.Turn.{IsDecoded, IsPurged};
 
+use crate::Rooms;
 use crate::answer::Answer;
-use decode_rules::{Prepared, World, complete, prepare};
+use decode_rules::{Prepared, World, complete, prepare_in};
 use munge_types::{Identity, NoMemory, Replay};
-use std::alloc::Global;
 
 /// How far the moment has to be above the floor for a purge to come before an answer, in seconds.
 const PURGE_INTERVAL: u32 = 60;
@@ -20,7 +20,7 @@ const PURGE_INTERVAL: u32 = 60;
 /// Answers a decode request with this text at this moment, in seconds since 1970, after so many
 /// events of the session's own.
 pub(crate) fn decode<R: Replay>(
-    alloc: Global,
+    rooms: &mut Rooms,
     replay: &mut R,
     who: Identity,
     world: &World,
@@ -41,7 +41,9 @@ pub(crate) fn decode<R: Replay>(
     ensures live { AllLive (R.remembered replay.old) → AllLive (R.remembered replay.new) }
 {
     let entries = entries + purge_if_due(replay, moment);
-    match prepare(alloc, world, who, moment, text)? {
+    let memory = rooms.frame();
+    let work = rooms.work(text.len())?;
+    match prepare_in(memory, world, who, moment, work, text)? {
         Prepared::Refused(reply) => Ok(Answer {
             reply: reply.into_bytes(),
             entries,

@@ -1,6 +1,7 @@
 //! Answering an encode request.
 
-ghost use Rattle.std.specs.Prelude.{◌≡◌, ◌≤◌, ℕ, [], List, IfOk, length};
+ghost use Rattle.std.specs.Prelude.{◌≡◌, ◌≤◌, ◌++◌, ℕ, [], List, IfOk, length};
+ghost use Rattle.munge_types.specs.declared.status.Status.TheVariants.{Success};
 ghost use Rattle.cred_seal.specs.Asked.{asked_of};
 ghost use Rattle.cred_seal.specs.SealedText.{text_limit};
 ghost use Rattle.decode_rules.specs.Terms.{IsMadeOf, WorldFiles, terms_of};
@@ -8,16 +9,20 @@ ghost use Rattle.session_core.specs.AskedBy.{asked_by};
 ghost use Rattle.session_core.specs.EncodeReply.{Encodes, IsSealReply, encode_reply};
 ghost use Rattle.session_core.specs.Seed.{place_of, seed_of};
 
-use cred_seal::{Dice, Drawn, SealRefused, SealRequest, seal};
+use crate::Rooms;
+use cred_seal::{Dice, Drawn, SealRequest, SealedInto, seal_into, text_size};
 use decode_rules::World;
-use munge_types::{Identity, NoMemory, Status};
+use munge_types::{Identity, NoMemory, Room, Status};
 use std::alloc::Global;
-use wire_msg::{Bytes, EncodeAsk, EncodeSaid, FrameRefused, Message, frame};
+use wire_msg::{
+    Bytes, EncodeAsk, EncodeSaid, FrameRefused, HEAD_SIZE, Kind, Message, frame_in, message_head,
+};
 
 /// Answers an encode request at this moment, in seconds since 1970. Without dice nothing is sealed.
 /// With them, the words of one credential are drawn whatever the reply.
 pub(crate) fn encode(
     alloc: Global,
+    rooms: &mut Rooms,
     dice: &mut Option<Dice>,
     who: Identity,
     world: &World,
@@ -31,18 +36,21 @@ pub(crate) fn encode(
     ensures same_seed { seed_of dice.new ≡ seed_of dice.old }
 {
     match dice {
-        None => reply_with(alloc, Status::BadArgument, Vec::new(alloc)),
+        None => refusal(alloc, rooms.frame(), Status::BadArgument),
         Some(dice) => {
             let drawn = dice.draw();
-            let reply = seal_reply(alloc, world, who, moment, ask, &drawn)?;
+            let reply = seal_reply(alloc, rooms.frame(), world, who, moment, ask, &drawn)?;
             Ok(reply)
         }
     }
 }
 
-/// The reply to what is asked, sealed with the salt and the initial vector that were drawn.
+/// The reply to what is asked, sealed with the salt and the initial vector that were drawn. It is
+/// made in the memory of this vector, as far as that goes: the whole frame is reserved once, and the
+/// text is sealed right into it.
 pub(crate) fn seal_reply(
     alloc: Global,
+    memory: Vec<u8>,
     world: &World,
     who: Identity,
     moment: u32,
@@ -53,34 +61,48 @@ pub(crate) fn seal_reply(
         → IfOk result (λ reply. IsSealReply (terms_of world.now who files) moment
         (asked_by ask.now) drawn.now.salt drawn.now.iv reply.items) }
 {
-    match seal(
-        alloc,
+    let request = request_of(ask);
+    let front = reply_front(memory, text_size(&request))?;
+    match seal_into(
+        front,
         &world.subkeys,
         &world.settings,
-        &request_of(ask),
+        &request,
         who,
         moment,
         drawn.salt,
         drawn.iv,
     ) {
-        Ok(text) => reply_with(alloc, Status::Success, text),
-        Err(SealRefused::BadCipher) => reply_with(alloc, Status::BadCipher, Vec::new(alloc)),
-        Err(SealRefused::BadMac) => reply_with(alloc, Status::BadMac, Vec::new(alloc)),
-        Err(SealRefused::BadLength(_)) => reply_with(alloc, Status::BadLength, Vec::new(alloc)),
-        Err(SealRefused::NoMemory) => Err(NoMemory),
+        SealedInto::Done(reply) => Ok(reply.finish()),
+        SealedInto::BadCipher(front) => refusal(alloc, front.finish(), Status::BadCipher),
+        SealedInto::BadMac(front) => refusal(alloc, front.finish(), Status::BadMac),
+        SealedInto::BadLength(front, _) => refusal(alloc, front.finish(), Status::BadLength),
     }
 }
 
-/// The encode reply with this status and this text.
-fn reply_with(alloc: Global, status: Status, text: Vec<u8>) -> Result<Vec<u8>, NoMemory>
-    requires { length text.items ≤ text_limit }
-    ensures { IfOk result (λ reply. reply.items ≡ encode_reply status text.items) }
+/// Room for the reply with a text of so many bytes, in the memory of this vector as far as that
+/// goes, with what stands before the text.
+fn reply_front(memory: Vec<u8>, size: usize) -> Result<Room, NoMemory>
+    requires { size ≤ text_limit }
+    ensures front { IfOk result (λ room. (text : List ℕ) → length text ≡ size
+        → room.bytes ++ text ≡ encode_reply Success text) }
+    ensures spare { IfOk result (λ room. room.spare ≡ size) }
+{
+    let mut room = Room::over(memory, HEAD_SIZE + 1 + size)?;
+    room.put(&message_head(Kind::EncodeReply, 1 + size as u32));
+    room.put(&[Status::Success.number()]);
+    Ok(room)
+}
+
+/// The encode reply with this status and no text, in the memory of this vector as far as that goes.
+fn refusal(alloc: Global, memory: Vec<u8>, status: Status) -> Result<Vec<u8>, NoMemory>
+    ensures { IfOk result (λ reply. reply.items ≡ encode_reply status []) }
 {
     let said = Message::EncodeReply(EncodeSaid {
         status: status.number(),
-        text: Bytes::of(text),
+        text: Bytes::of(Vec::new(alloc)),
     });
-    match frame(alloc, &said) {
+    match frame_in(memory, &said) {
         Ok(reply) => Ok(reply),
         Err(FrameRefused::NoMemory) => Err(NoMemory),
         Err(FrameRefused::TooLong(_)) => unreachable!(),

@@ -10,6 +10,7 @@ mod end;
 pub mod laws;
 mod reached;
 mod request;
+mod rooms;
 mod run;
 mod serve;
 mod served;
@@ -18,6 +19,7 @@ mod tests;
 mod turn;
 
 pub use end::{HowEnded, SessionEnd};
+pub use rooms::Rooms;
 pub use run::session;
-pub use serve::serve_one;
+pub use serve::{serve_in, serve_one};
 pub use served::{ServeEnd, Served};

@@ -19,11 +19,12 @@ ghost use Rattle.session_core.specs.Reached.{
 ghost use Rattle.session_core.specs.Requests.{IsRequest};
 ghost use Rattle.session_core.specs.Service.{Service, service_of};
 
+use crate::Rooms;
 use crate::answer::bye;
 use crate::encode::seal_reply;
 use byte_io::Clock;
 use cred_seal::Dice;
-use decode_rules::{Prepared, Ready, Reply, World, complete, prepare};
+use decode_rules::{Prepared, Ready, Reply, World, complete, prepare_in};
 use munge_types::{Identity, NoMemory, Replay};
 use replay_gate::{Gate, GateRefused, Pass};
 use std::alloc::Global;
@@ -60,6 +61,7 @@ pub(crate) struct Reached {
 pub(crate) fn reach<C: Clock, R: Replay + Drop, W: Wait>(
     rt: &W,
     alloc: Global,
+    rooms: &mut Rooms,
     clock: &mut C,
     gate: &Gate<R>,
     pass: &mut Pass,
@@ -84,9 +86,11 @@ pub(crate) fn reach<C: Clock, R: Replay + Drop, W: Wait>(
         (C.clock_faults clock.old) (C.clock_faults clock.new) }
 {
     match request {
-        Message::EncodeRequest(ask) => reach_seal(alloc, clock, dice, who, world, ask),
-        Message::DecodeRequest(text) => reach_gate(rt, alloc, clock, gate, pass, who, world, text),
-        Message::Stop => reach_stop(alloc, who),
+        Message::EncodeRequest(ask) => reach_seal(alloc, rooms, clock, dice, who, world, ask),
+        Message::DecodeRequest(text) => {
+            reach_gate(rt, rooms, clock, gate, pass, who, world, text)
+        }
+        Message::Stop => reach_stop(rooms, who),
         Message::EncodeReply(_) | Message::DecodeReply(_) | Message::Bye(_) => unreachable!(),
     }
 }
@@ -94,6 +98,7 @@ pub(crate) fn reach<C: Clock, R: Replay + Drop, W: Wait>(
 /// What comes of an encode request.
 fn reach_seal<C: Clock>(
     alloc: Global,
+    rooms: &mut Rooms,
     clock: &mut C,
     dice: &mut Dice,
     who: Identity,
@@ -117,7 +122,7 @@ fn reach_seal<C: Clock>(
         return unreached(Unreplied::ClockFault, None);
     };
     let drawn = dice.draw();
-    match seal_reply(alloc, world, who, moment, ask, &drawn) {
+    match seal_reply(alloc, rooms.frame(), world, who, moment, ask, &drawn) {
         Ok(reply) => Reached {
             reply: Ok(Bytes::of(reply)),
             moment: Some(moment),
@@ -138,7 +143,7 @@ fn reach_seal<C: Clock>(
 /// What comes of a decode request with this text.
 fn reach_gate<C: Clock, R: Replay + Drop, W: Wait>(
     rt: &W,
-    alloc: Global,
+    rooms: &mut Rooms,
     clock: &mut C,
     gate: &Gate<R>,
     pass: &mut Pass,
@@ -163,7 +168,11 @@ fn reach_gate<C: Clock, R: Replay + Drop, W: Wait>(
     let Ok(moment) = clock.now() else {
         return unreached(Unreplied::ClockFault, None);
     };
-    match prepare(alloc, world, who, moment, text.bytes()) {
+    let memory = rooms.frame();
+    let Ok(work) = rooms.work(text.bytes().len()) else {
+        return unreached(Unreplied::NoMemory, Some(moment));
+    };
+    match prepare_in(memory, world, who, moment, work, text.bytes()) {
         Ok(Prepared::Refused(reply)) => replied(reply, moment, None),
         Ok(Prepared::Ready(ready)) => enter(rt, gate, pass, ready, moment),
         Err(NoMemory) => unreached(Unreplied::NoMemory, Some(moment)),
@@ -205,7 +214,7 @@ fn enter<R: Replay + Drop, W: Wait>(
 }
 
 /// What comes of a request to stop.
-fn reach_stop(alloc: Global, who: Identity) -> Reached
+fn reach_stop(rooms: &mut Rooms, who: Identity) -> Reached
     ensures comes { (service : Service) → service.terms.who ≡ who
         → ComesTo service None Stop (notes_reached result) result.reply }
     ensures nowhere { result.place ≡ None }
@@ -214,7 +223,7 @@ fn reach_stop(alloc: Global, who: Identity) -> Reached
     ensures not_worn { (ticket : ℕ) → result.reply ≢ Err (Unreplied.Worn ticket) }
     ensures timed { result.reply ≢ Err Unreplied.ClockFault }
 {
-    match bye(alloc, who) {
+    match bye(rooms.frame(), who) {
         Ok(reply) => Reached {
             reply: Ok(Bytes::of(reply)),
             moment: None,

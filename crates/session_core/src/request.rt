@@ -38,6 +38,7 @@ ghost use Rattle.session_core.specs.Requests.{IsRequest};
 ghost use Rattle.session_core.specs.Things.{input_of};
 ghost use Rattle.session_core.specs.declared.request.Progress.TheVariants.{Whole};
 
+use crate::Rooms;
 use byte_io::{FullRead, Source, read_full};
 use munge_types::NoMemory;
 use std::alloc::Global;
@@ -90,16 +91,15 @@ impl Unread {
     }
 }
 
-/// Reads one request and nothing beyond it: its head, and then what the head says, by pieces of the
-/// buffer's size.
+/// Reads one request and nothing beyond it: its head, and then what the head says, by pieces of
+/// 64 KiB at most.
 pub(crate) fn read_request<I: Source>(
     input: &mut I,
     feeder: &mut Feeder,
-    buffer: &mut [u8],
+    rooms: &mut Rooms,
 ) -> Result<Message, Unread>
     requires side { feeder.old.side ≡ Requests }
     requires between { feeder.old.unfinished ≡ [] }
-    requires room { 1 ≤ length buffer.old }
 
     ensures fits { IfOk result IsRequest }
     ensures read { IfOk result (λ request.
@@ -119,19 +119,27 @@ pub(crate) fn read_request<I: Source>(
     ensures ends_kept { KeepsEnds result (I.ends input.old) (I.ends input.new) }
     ensures beside { I.beside_reads input.new ≡ I.beside_reads input.old }
 {
-    match read_head(input, feeder) {
+    match read_head(input, feeder, rooms) {
         Ok(Progress::Whole(request)) => Ok(request),
-        Ok(Progress::Partial(wanted)) => match read_body(input, feeder, buffer, wanted) {
-            Ok(request) => Ok(request),
-            Err(cause) => Err(cause.behind(HEAD_SIZE as u64)),
-        },
+        Ok(Progress::Partial(wanted)) => {
+            let Ok(buffer) = rooms.piece(wanted) else {
+                return Err(Unread::NoMemory(HEAD_SIZE as u64));
+            };
+            match read_body(input, feeder, buffer, wanted) {
+                Ok(request) => Ok(request),
+                Err(cause) => Err(cause.behind(HEAD_SIZE as u64)),
+            }
+        }
         Err(cause) => Err(cause),
     }
 }
 
-/// Reads the one request of a stream that brings no more, and nothing beyond it. The buffer is no
-/// larger than the request.
-pub(crate) fn read_alone<I: Source>(alloc: Global, input: &mut I) -> Result<Heard, Unread>
+/// Reads the one request of a stream that brings no more, and nothing beyond it.
+pub(crate) fn read_alone<I: Source>(
+    alloc: Global,
+    rooms: &mut Rooms,
+    input: &mut I,
+) -> Result<Heard, Unread>
     ensures fits { IfOk result (λ heard. IsRequest heard.request) }
     ensures read { IfOk result (λ heard.
         Consumes (I.left input.old) (I.left input.new) (frame_of heard.request)) }
@@ -147,29 +155,22 @@ pub(crate) fn read_alone<I: Source>(alloc: Global, input: &mut I) -> Result<Hear
     ensures beside { I.beside_reads input.new ≡ I.beside_reads input.old }
 {
     let mut feeder = Feeder::new(alloc, Side::Requests);
-    match read_head(input, &mut feeder) {
-        Ok(Progress::Whole(request)) => Ok(Heard {
+    match read_request(input, &mut feeder, rooms) {
+        Ok(request) => Ok(Heard {
             request,
             size: feeder.place(),
         }),
-        Ok(Progress::Partial(wanted)) => {
-            let Ok(mut buffer) = vec![in alloc; 0u8; wanted.min(PIECE_SIZE)] else {
-                return Err(Unread::NoMemory(HEAD_SIZE as u64));
-            };
-            match read_body(input, &mut feeder, buffer.as_mut_slice(), wanted) {
-                Ok(request) => Ok(Heard {
-                    request,
-                    size: feeder.place(),
-                }),
-                Err(cause) => Err(cause.behind(HEAD_SIZE as u64)),
-            }
-        }
         Err(cause) => Err(cause),
     }
 }
 
-/// Reads the head of a request, which is all of it where its body is empty.
-fn read_head<I: Source>(input: &mut I, feeder: &mut Feeder) -> Result<Progress, Unread>
+/// Reads the head of a request, which is all of it where its body is empty. Only once it is read is
+/// the buffer for the body lent.
+fn read_head<I: Source>(
+    input: &mut I,
+    feeder: &mut Feeder,
+    rooms: &mut Rooms,
+) -> Result<Progress, Unread>
     requires side { feeder.old.side ≡ Requests }
     requires between { feeder.old.unfinished ≡ [] }
 
@@ -192,7 +193,10 @@ fn read_head<I: Source>(input: &mut I, feeder: &mut Feeder) -> Result<Progress, 
 {
     let mut head = [0; HEAD_SIZE];
     match read_full(input, &mut head) {
-        FullRead::Full => take_head(feeder, &head),
+        FullRead::Full => {
+            feeder.lend(rooms.body());
+            take_head(feeder, &head)
+        }
         FullRead::Short(0) => Err(Unread::Ended),
         FullRead::Short(count) => Err(Unread::Malformed(count as u64)),
         FullRead::Failed(count) => Err(Unread::ReadFault(count as u64)),

@@ -1,6 +1,6 @@
 //! A session: the loop over the requests of a stream.
 
-ghost use Rattle.std.specs.Prelude.{◌≡◌, ◌≢◌, ◌≤◌, ℕ, List, [], length};
+ghost use Rattle.std.specs.Prelude.{◌≡◌, ◌≢◌, ◌≤◌, ℕ, List, []};
 ghost use Rattle.byte_io.specs.Counts.{Rose};
 ghost use Rattle.munge_types.specs.StandsFor.{Stands};
 ghost use Rattle.munge_types.specs.declared.history.Event.{Event};
@@ -14,9 +14,8 @@ ghost use Rattle.session_core.specs.Session.{session_of};
 ghost use Rattle.session_core.specs.SessionRan.{SessionRan};
 ghost use Rattle.session_core.specs.Things.{input_of, outside_of, things_of};
 
-use crate::request::PIECE_SIZE;
 use crate::turn::take_turn;
-use crate::{HowEnded, SessionEnd};
+use crate::{HowEnded, Rooms, SessionEnd};
 use byte_io::{Clock, FullRead, Sink, Source, read_full};
 use cred_seal::Dice;
 use decode_rules::World;
@@ -70,19 +69,14 @@ pub fn session<I: Source, O: Sink, C: Clock, R: Replay>(
         → C.clock_faults clock.new ≡ C.clock_faults clock.old }
     ensures found { FindsEnd result.how (I.ends input.old) (I.ends input.new) }
 {
-    let Ok(mut buffer) = vec![in alloc; 0u8; PIECE_SIZE] else {
-        return SessionEnd {
-            answered: 0,
-            how: HowEnded::NoMemory,
-        };
-    };
+    let mut rooms = Rooms::new(alloc);
     let mut feeder = Feeder::new(alloc, Side::Requests);
     let mut dice = dice_of(seed);
     answer_all(
         alloc,
         input,
         &mut feeder,
-        buffer.as_mut_slice(),
+        &mut rooms,
         out,
         clock,
         replay,
@@ -97,7 +91,7 @@ fn answer_all<I: Source, O: Sink, C: Clock, R: Replay>(
     alloc: Global,
     input: &mut I,
     feeder: &mut Feeder,
-    buffer: &mut [u8],
+    rooms: &mut Rooms,
     out: &mut O,
     clock: &mut C,
     replay: &mut R,
@@ -108,7 +102,6 @@ fn answer_all<I: Source, O: Sink, C: Clock, R: Replay>(
     requires side { feeder.old.side ≡ Requests }
     requires between { feeder.old.unfinished ≡ [] }
     requires begins { feeder.old.begins ≡ 0 }
-    requires room { 1 ≤ length buffer.old }
     requires place { place_of dice.old ≡ 0 }
 
     ensures ran { (files : WorldFiles) (base : List Event) → IsMadeOf world.now files
@@ -137,7 +130,7 @@ fn answer_all<I: Source, O: Sink, C: Clock, R: Replay>(
     let mut entries = 0;
     'requests: for answered in 0..REQUEST_LIMIT {
         match take_turn(
-            alloc, input, feeder, buffer, out, clock, replay, dice, who, world, entries,
+            alloc, input, feeder, rooms, out, clock, replay, dice, who, world, entries,
         ) {
             Ok(turned) => {
                 if turned.over {

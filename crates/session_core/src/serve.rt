@@ -13,6 +13,7 @@ ghost use Rattle.session_core.specs.Service.{service_of};
 ghost use Rattle.session_core.specs.Things.{input_of};
 ghost use Rattle.session_core.specs.WholeRequest.{IsCompleteByLink};
 
+use crate::Rooms;
 use crate::reached::{Reached, Unreplied, reach};
 use crate::request::{Unread, read_alone};
 use crate::served::{ServeEnd, Served};
@@ -73,11 +74,64 @@ pub fn serve_one<L: Link, C: Clock, R: Replay + Drop, W: Wait>(
         (link_faults_of (L.read_faults conn.old) (L.write_faults conn.old))
         (link_faults_of (L.read_faults conn.new) (L.write_faults conn.new)) result }
 {
-    match read_alone(alloc, conn) {
+    let mut rooms = Rooms::new(alloc);
+    serve_in(
+        rt, alloc, &mut rooms, conn, clock, gate, pass, dice, who, world,
+    )
+}
+
+/// Serves one connection as `serve_one` does, in buffers that the caller keeps between connections.
+pub fn serve_in<L: Link, C: Clock, R: Replay + Drop, W: Wait>(
+    rt: &W,
+    alloc: Global,
+    rooms: &mut Rooms,
+    conn: &mut L,
+    clock: &mut C,
+    gate: &Gate<R>,
+    pass: &mut Pass,
+    dice: &mut Dice,
+    who: Identity,
+    world: &World,
+) -> Served
+    requires of_gate { pass.old.gate ≡ gate.now }
+
+    // For all files that the world is made of.
+    ensures serves { (files : WorldFiles) → IsMadeOf world.now files
+        → let service = service_of (terms_of world.now who files) dice.old.seed pass.old.number in
+        let before = connection_of (input_of (L.left conn.old) (L.ends conn.old))
+        (L.taken conn.old) (L.rings conn.old) in
+        let after = connection_of (input_of (L.left conn.new) (L.ends conn.new))
+        (L.taken conn.new) (L.rings conn.new) in
+        Serves service pass.old pass.new before after result result.place }
+    ensures reading { TakesReading
+        (timing_of (C.readings clock.old) (C.last_reading clock.old) (C.given clock.old))
+        (timing_of (C.readings clock.new) (C.last_reading clock.new) (C.given clock.new))
+        result.moment }
+    ensures draws { Draws dice.old dice.new result.drawn }
+    ensures pass { PassGoesOn pass.old pass.new }
+
+    ensures link_caused { LinkCausedBy
+        (link_faults_of (L.read_faults conn.old) (L.write_faults conn.old))
+        (link_faults_of (L.read_faults conn.new) (L.write_faults conn.new)) result.how }
+    ensures clock_caused { ClockCausedBy
+        (C.clock_faults clock.old) (C.clock_faults clock.new) result.how }
+
+    // What no fault of the connection can excuse.
+    ensures complete { IsCompleteByLink
+        (connection_of (input_of (L.left conn.old) (L.ends conn.old))
+        (L.taken conn.old) (L.rings conn.old))
+        (link_faults_of (L.read_faults conn.old) (L.write_faults conn.old))
+        (link_faults_of (L.read_faults conn.new) (L.write_faults conn.new)) result }
+{
+    match read_alone(alloc, rooms, conn) {
         Ok(heard) => {
             let request = heard.request;
-            let reached = reach(rt, alloc, clock, gate, pass, dice, who, world, &request);
-            send(conn, who, &request, heard.size, reached)
+            let reached = reach(
+                rt, alloc, rooms, clock, gate, pass, dice, who, world, &request,
+            );
+            let served = send(rooms, conn, who, &request, heard.size, reached);
+            rooms.keep_body(request);
+            served
         }
         Err(cause) => unheard(cause),
     }
@@ -86,6 +140,7 @@ pub fn serve_one<L: Link, C: Clock, R: Replay + Drop, W: Wait>(
 /// Writes the reply to a request of so many bytes, where there is one, and asks the daemon to stop
 /// where it says that it will.
 fn send<L: Link>(
+    rooms: &mut Rooms,
     conn: &mut L,
     who: Identity,
     request: &Message,
@@ -111,7 +166,11 @@ fn send<L: Link>(
         drawn,
     } = reached;
     let how = match reply {
-        Ok(reply) => send_reply(conn, stops(who, request), &reply),
+        Ok(reply) => {
+            let how = send_reply(conn, stops(who, request), &reply);
+            rooms.keep_frame(reply.into_vec());
+            how
+        }
         Err(Unreplied::ClockFault) => ServeEnd::ClockFault,
         Err(Unreplied::NoMemory) => ServeEnd::NoMemory,
         Err(Unreplied::Worn(ticket)) => ServeEnd::Worn(ticket),

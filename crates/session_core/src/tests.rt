@@ -7,7 +7,7 @@ mod sessions;
 
 ghost use Rattle.std.specs.Prelude.{◌≡◌, IfOk};
 
-use crate::{ServeEnd, Served, serve_one};
+use crate::{Rooms, ServeEnd, Served, serve_in, serve_one};
 use byte_io::{MemClock, MemLink};
 use cred_seal::Dice;
 use decode_rules::World;
@@ -60,6 +60,7 @@ struct Host {
     gate: Gate<PlainReplay>,
     pass: Pass,
     dice: Dice,
+    rooms: Rooms,
 }
 
 impl Host {
@@ -74,6 +75,7 @@ impl Host {
             gate,
             pass,
             dice,
+            rooms: Rooms::new(alloc),
         })
     }
 
@@ -96,9 +98,10 @@ impl Host {
         }
         let mut conn = MemLink::new(alloc, bytes, Vec::new(alloc), fails.to_vec(alloc)?);
         let mut clock = MemClock::new(vec![in alloc; 1000]?, Vec::new(alloc));
-        let served = serve_one(
+        let served = serve_in(
             rt,
             alloc,
+            &mut self.rooms,
             &mut conn,
             &mut clock,
             &self.gate,
@@ -191,5 +194,40 @@ fn stop_asks_for_control(rt: HostRuntime) -> Result<(), Fail> {
             [0x4d, 1, 6, 0, 0, 0, 1, status].as_slice()
         );
     }
+    Ok(())
+}
+
+#[test]
+fn short_request_after_a_long_one(rt: HostRuntime) -> Result<(), Fail> {
+    let mut host = Host::new(rt.alloc())?;
+    let long = vec![in rt.alloc(); b' '; 70_000]?;
+    let parts = [b"\x4d\x01\x03\x00\x01\x11\x70".as_slice(), &long];
+    let (served, _) = host.serve(&rt, rt.alloc(), caller(7, false), &parts, &[])?;
+    assert_eq!(rt; (served.how, served.read), (ServeEnd::Done, 70_007));
+    let parts = [HEAD, SEALED];
+    let (served, _) = host.serve(&rt, rt.alloc(), caller(7, false), &parts, &[])?;
+    assert_eq!(rt; served, decoded(ServeEnd::Done, 0, Some(0)));
+    Ok(())
+}
+
+#[test]
+fn connection_in_buffers_of_its_own(rt: HostRuntime) -> Result<(), Fail> {
+    let mut host = Host::new(rt.alloc())?;
+    let stop = b"\x4d\x01\x05\x00\x00\x00\x00".to_vec(rt.alloc())?;
+    let mut conn = MemLink::new(rt.alloc(), stop, Vec::new(rt.alloc()), Vec::new(rt.alloc()));
+    let mut clock = MemClock::new(Vec::new(rt.alloc()), Vec::new(rt.alloc()));
+    let served = serve_one(
+        &rt,
+        rt.alloc(),
+        &mut conn,
+        &mut clock,
+        &host.gate,
+        &mut host.pass,
+        &mut host.dice,
+        caller(7, true),
+        &host.world,
+    );
+    assert_eq!(rt; served.how, ServeEnd::Stopped);
+    assert_eq!(rt; conn.taken(), [0x4d, 1, 6, 0, 0, 0, 1, 0].as_slice());
     Ok(())
 }

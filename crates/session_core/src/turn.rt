@@ -11,7 +11,6 @@ ghost use Rattle.std.specs.Prelude.{
   ◌++◌,
   [],
   List,
-  length,
   IfOk,
   IfErr,
   OnOk,
@@ -29,9 +28,9 @@ ghost use Rattle.session_core.specs.Session.{session_of};
 ghost use Rattle.session_core.specs.Things.{input_of, outside_of, things_of};
 ghost use Rattle.session_core.specs.Turn.{HasEnded, IsAt, IsTurned, stage_of};
 
-use crate::HowEnded;
 use crate::answer::{Unanswered, make_answer};
 use crate::request::{Unread, read_request};
+use crate::{HowEnded, Rooms};
 use byte_io::{AllWritten, Clock, Sink, Source, write_all};
 use cred_seal::Dice;
 use decode_rules::World;
@@ -54,7 +53,7 @@ pub(crate) fn take_turn<I: Source, O: Sink, C: Clock, R: Replay>(
     alloc: Global,
     input: &mut I,
     feeder: &mut Feeder,
-    buffer: &mut [u8],
+    rooms: &mut Rooms,
     out: &mut O,
     clock: &mut C,
     replay: &mut R,
@@ -66,7 +65,6 @@ pub(crate) fn take_turn<I: Source, O: Sink, C: Clock, R: Replay>(
     requires side { feeder.old.side ≡ Requests }
     requires between { feeder.old.unfinished ≡ [] }
     requires far_from_end { feeder.old.begins + 2097159 < 2 ^ 64 }
-    requires room { 1 ≤ length buffer.old }
     requires few_entries { entries + 2 < 2 ^ 64 }
 
     ensures turned { (files : WorldFiles) (base : List Event) (own : Own) → IsMadeOf world.now files
@@ -115,21 +113,27 @@ pub(crate) fn take_turn<I: Source, O: Sink, C: Clock, R: Replay>(
 
     ensures live { AllLive (R.remembered replay.old) → AllLive (R.remembered replay.new) }
 {
-    let request = match read_request(input, feeder, buffer) {
+    let request = match read_request(input, feeder, rooms) {
         Ok(request) => request,
         Err(cause) => return Err(ended_by(cause, feeder.place())),
     };
     let over = stops(who, &request);
-    let answer = match make_answer(alloc, clock, replay, dice, who, world, &request, entries) {
+    let answer = match make_answer(
+        alloc, rooms, clock, replay, dice, who, world, &request, entries,
+    ) {
         Ok(answer) => answer,
         Err(Unanswered::ClockFault) => return Err(HowEnded::ClockFault),
         Err(Unanswered::NoMemory) => return Err(HowEnded::NoMemory),
     };
     match write_all(out, &answer.reply) {
-        AllWritten::All => Ok(Turned {
-            entries: answer.entries,
-            over,
-        }),
+        AllWritten::All => {
+            rooms.keep_body(request);
+            rooms.keep_frame(answer.reply);
+            Ok(Turned {
+                entries: answer.entries,
+                over,
+            })
+        }
         AllWritten::Failed(_) => Err(HowEnded::WriteFault),
     }
 }

@@ -13,7 +13,6 @@ use crate::reading::message_of;
 use crate::short_bytes::ShortBytes;
 use crate::{Bytes, Kind, Message};
 use munge_types::{NoMemory, Room};
-use std::alloc::Global;
 use std::marker::Model;
 
 /// A frame whose head is whole, as far as its body came. Contracts see what the head says, and the
@@ -46,15 +45,16 @@ impl Model for Begun {
 }
 
 impl Begun {
-    /// A frame with this head. The memory for its body is taken.
-    pub(crate) fn new(alloc: Global, head: Head) -> Result<Begun, NoMemory>
+    /// A frame with this head. The memory for its body is that of the spare vector, as far as that
+    /// goes.
+    pub(crate) fn new(spare: Vec<u8>, head: Head) -> Result<Begun, NoMemory>
         requires { AllowsSize head.kind head.size }
         ensures kind { IfOk result (λ begun. begun.kind ≡ head.kind) }
         ensures size { IfOk result (λ begun. begun.size ≡ head.size) }
         ensures body { IfOk result (λ begun. begun.body ≡ []) }
     {
         let size = head.size as usize;
-        let tail = Room::new(alloc, size - fixed_size(head))?;
+        let tail = Room::over(spare, size - fixed_size(head))?;
         Ok(Begun {
             head,
             fields: ShortBytes::new(),

@@ -17,6 +17,7 @@ use crate::{Fed, Side};
 use munge_types::NoMemory;
 use std::alloc::Global;
 use std::marker::Model;
+use std::mem::replace;
 
 /// Takes the bytes of a stream in pieces of any size, and gives the messages of one side. Contracts
 /// see the side, the place where the frame begins whose bytes come now, and those that came.
@@ -30,6 +31,8 @@ pub struct Feeder {
     front: ShortBytes,
     /// The frame, from then on.
     begun: Option<Begun>,
+    /// What the next body is kept in, as far as its memory goes.
+    spare: Vec<u8>,
 }
 
 impl Model for Feeder {
@@ -60,7 +63,16 @@ impl Feeder {
             begins: 0,
             front: ShortBytes::new(),
             begun: None,
+            spare: Vec::new(alloc),
         }
+    }
+
+    /// Gives it the memory of this vector for the next text or payload. What the vector held is
+    /// dropped. It takes no memory.
+    pub fn lend(&mut self, spare: Vec<u8>)
+        ensures { self.new ≡ self.old }
+    {
+        self.spare = spare;
     }
 
     /// Where the frame begins whose bytes come now: how many bytes the whole frames before had. It
@@ -72,8 +84,8 @@ impl Feeder {
     }
 
     /// Takes the next bytes of the stream, up to the end of a frame. The memory for a body is taken
-    /// once, when the head is whole, and a text or payload is copied once, from the piece. After want
-    /// of memory nothing was taken.
+    /// once, when the head is whole, as far as what was lent does not do, and a text or payload is
+    /// copied once, from the piece. After want of memory nothing was taken.
     pub fn feed(&mut self, piece: &[u8]) -> Result<Fed, NoMemory>
         ensures answers { IfOk result (Answers self.old piece.now) }
         ensures leaves { IfOk result (λ fed. Leaves self.old piece.now fed self.new) }
@@ -92,7 +104,8 @@ impl Feeder {
         let front = front_with(&self.front, piece);
         match head_in(self.side, front.bytes()) {
             Seen::Whole(head) => {
-                let begun = Begun::new(self.alloc, head)?;
+                let spare = replace(&mut self.spare, Vec::new(self.alloc));
+                let begun = Begun::new(spare, head)?;
                 let taken = front.len() - self.front.len();
                 Ok(self.go_on(begun, piece, taken))
             }

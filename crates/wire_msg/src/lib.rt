@@ -21,7 +21,7 @@ pub use feeder::Feeder;
 pub use heads::{CONTENT_SIZE, HEAD_SIZE, REPLY_SIZE, content_head, message_head, reply_head};
 pub use kind::{BODY_LIMIT, Kind, Side};
 pub use message::{Content, ContentFields, DecodeSaid, EncodeAsk, EncodeSaid, Message};
-pub use writing::{FrameRefused, frame};
+pub use writing::{FrameRefused, frame, frame_in};
 
 #[cfg(test)]
 mod tests;

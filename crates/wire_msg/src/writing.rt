@@ -45,11 +45,20 @@ pub fn frame(alloc: Global, message: &Message) -> Result<Vec<u8>, FrameRefused>
     ensures fits { OnOk result (IsMessage (side_of message.now) message.now) }
     ensures refused { IfErr result (Refuses message.now) }
 {
+    frame_in(Vec::new(alloc), message)
+}
+
+/// The same in the memory of this buffer, as far as that goes. What the buffer held is dropped.
+pub fn frame_in(buffer: Vec<u8>, message: &Message) -> Result<Vec<u8>, FrameRefused>
+    ensures frame { IfOk result (λ bytes. bytes.items ≡ frame_of message.now) }
+    ensures fits { OnOk result (IsMessage (side_of message.now) message.now) }
+    ensures refused { IfErr result (Refuses message.now) }
+{
     let size = body_size(message);
     if size > u64::from(BODY_LIMIT) {
         return Err(FrameRefused::TooLong(size));
     }
-    let Ok(mut frame) = Room::new(alloc, HEAD_SIZE + size as usize) else {
+    let Ok(mut frame) = Room::over(buffer, HEAD_SIZE + size as usize) else {
         return Err(FrameRefused::NoMemory);
     };
     frame.put(&message_head(message.kind(), size as u32));

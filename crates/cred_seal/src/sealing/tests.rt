@@ -1,10 +1,14 @@
 //! Sealing by worked requests. The texts come from Python: MACs and keys from its `hmac` and `hashlib`,
 //! encryption from `cryptography`, the salt and the vector from the ChaCha20 of `cryptography`.
 
+ghost use Rattle.std.specs.Prelude.{◌≤◌};
+ghost use Rattle.cred_seal.specs.Asked.{asked_of};
+ghost use Rattle.cred_seal.specs.TextSize.{text_size};
+
 use crate::asked::stored_ttl;
-use crate::{SealRefused, SealRequest, seal};
-use cred_open::open_text;
-use munge_types::{Cipher, Identity, MacKind, Settings};
+use crate::{SealRefused, SealRequest, SealedInto, seal, seal_into, text_size};
+use cred_open::{open_in, open_text};
+use munge_types::{Cipher, Identity, MacKind, Room, Settings};
 use std::alloc::Global;
 use std::process::Abort;
 use std::test::Fail;
@@ -43,6 +47,26 @@ fn sealed(
         control: false,
     };
     seal(alloc, subkeys, &settings, request, who, 1000, SALT, VECTOR)
+}
+
+/// What the same answers with this room, which has to have the spare for the text.
+fn sealed_into(out: Room, subkeys: &Subkeys, request: &SealRequest<'_>) -> SealedInto
+    requires { text_size (asked_of request.now) ≤ out.spare }
+{
+    let settings = Settings::usual();
+    let who = Identity {
+        uid: 7,
+        gid: 7,
+        control: false,
+    };
+    seal_into(out, subkeys, &settings, request, who, 1000, SALT, VECTOR)
+}
+
+/// The room holds this.
+fn assert_holds(rt: &impl Abort, room: Room, bytes: &[u8]) {
+    let held = room.finish();
+    let same = held.as_slice() == bytes;
+    assert!(rt; same);
 }
 
 /// The request is refused for this cause.
@@ -252,6 +276,101 @@ fn largest_payload(rt: HostRuntime) -> Result<(), Fail> {
         let opened = open_text(rt.alloc(), &subkeys, &text)?;
         let same = opened.inner().payload == payload.as_slice();
         assert!(rt; same);
+    }
+    Ok(())
+}
+
+/// The largest credential, sealed into a room that was made with its size, and opened inside one
+/// buffer of that size.
+#[test]
+fn largest_into_a_room(rt: HostRuntime) -> Result<(), Fail> {
+    let subkeys = Subkeys::of(&KEY)?;
+    let payload = vec![in rt.alloc(); 0x5a; 1_048_576]?;
+    let request = SealRequest {
+        cipher: 5,
+        kind: 6,
+        payload: &payload,
+        ..REQUEST
+    };
+    assert_eq!(rt; text_size(&request), 1_398_287);
+    let room = Room::new(rt.alloc(), 1_398_287)?;
+    let SealedInto::Done(room) = sealed_into(room, &subkeys, &request) else {
+        assert!(rt; false, "refused");
+        return Ok(());
+    };
+    let text = room.finish();
+    assert_eq!(rt; text.len(), 1_398_287);
+    let same = text.as_slice() == sealed(rt.alloc(), &subkeys, &request, 7, 7)?.as_slice();
+    assert!(rt; same);
+    let mut work = vec![in rt.alloc(); 0; 1_398_287]?;
+    let opened = open_in(&subkeys, &mut work, &text)?;
+    assert_eq!(rt;
+        (opened.cipher(), opened.kind()),
+        (Cipher::Aes256, MacKind::Sha512)
+    );
+    let same = opened.inner().payload == payload.as_slice();
+    assert!(rt; same);
+    Ok(())
+}
+
+/// What the room held stays in front of the text.
+#[test]
+fn behind_what_the_room_holds(rt: HostRuntime) -> Result<(), Fail> {
+    let subkeys = Subkeys::of(&KEY)?;
+    let request = SealRequest {
+        cipher: 4,
+        payload: b"hello",
+        ..REQUEST
+    };
+    assert_eq!(rt; text_size(&request), 143);
+    let mut room = Room::new(rt.alloc(), 150)?;
+    room.put(b"a front");
+    let mut wanted = Vec::from_slice(rt.alloc(), b"a front")?;
+    wanted.extend_from_slice(&sealed(rt.alloc(), &subkeys, &request, 7, 7)?)?;
+    match sealed_into(room, &subkeys, &request) {
+        SealedInto::Done(room) => assert_holds(&rt, room, &wanted),
+        _ => assert!(rt; false, "refused"),
+    }
+    Ok(())
+}
+
+/// The request is refused for this cause, and the room comes back as it was.
+fn assert_hands_back(
+    rt: &impl Abort,
+    alloc: Global,
+    request: &SealRequest<'_>,
+    cause: SealRefused,
+) -> Result<(), Fail> {
+    assert_eq!(rt; text_size(request), 0);
+    let mut room = Room::new(alloc, 7)?;
+    room.put(b"a front");
+    let (room, found) = match sealed_into(room, &Subkeys::of(&KEY)?, request) {
+        SealedInto::Done(room) => (room, None),
+        SealedInto::BadCipher(room) => (room, Some(SealRefused::BadCipher)),
+        SealedInto::BadMac(room) => (room, Some(SealRefused::BadMac)),
+        SealedInto::BadLength(room, size) => (room, Some(SealRefused::BadLength(size))),
+    };
+    assert_eq!(rt; found, Some(cause));
+    assert_holds(rt, room, b"a front");
+    Ok(())
+}
+
+/// Each refusal hands the room back as it was.
+#[test]
+fn refused_with_the_room(rt: HostRuntime) -> Result<(), Fail> {
+    let payload = vec![in rt.alloc(); 0x5a; 1_048_577]?;
+    for (cipher, kind, cause) in [
+        (2, 5, SealRefused::BadCipher),
+        (5, 3, SealRefused::BadMac),
+        (4, 5, SealRefused::BadLength(1_048_577)),
+    ] {
+        let request = SealRequest {
+            cipher,
+            kind,
+            payload: &payload,
+            ..REQUEST
+        };
+        assert_hands_back(&rt, rt.alloc(), &request, cause)?;
     }
     Ok(())
 }

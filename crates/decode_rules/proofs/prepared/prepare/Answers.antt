@@ -5,7 +5,7 @@ use Rattle.decode_rules.proofs.prepared.prepare.Goals as goal
 
 pub returns-in_ok-prepared-in-Ok : goal.returns-in_ok-prepared-in-Ok
 returns-in_ok-prepared-in-Ok c = λ files is.
-    prepared_of_judged _ _ _ _ c.in_ok-prepared-in-Ok.prepared (c.in-Ok.ensures.opened files.key is.subkeys) (c.in_ok-prepared-in-Ok.ensures files is)
+    prepared_of_judged _ _ _ _ c.in_ok-prepared-in-Ok.prepared (c.in-Ok.ensures.opened files.key is.subkeys) (rw c.lent.ensures at (c.in_ok-prepared-in-Ok.ensures files is))
 
 pub returns-in_ok-reply-in-Err-Failed : goal.returns-in_ok-reply-in-Err-Failed
 returns-in_ok-reply-in-Err-Failed c = λ files is.

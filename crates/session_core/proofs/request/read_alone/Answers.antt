@@ -1,40 +1,8 @@
-use Rattle.std.proofs.Common.{◌<◌, ◌≤◌, ◌+◌, ◌^◌, arith}
-use Rattle.session_core.proofs.RequestLemmas.{body_none, body_read, head_unread, part_wants, wants_within}
-use Rattle.session_core.specs.Partial.{Wants}
-use Rattle.session_core.specs.Things.{input_of}
+use Rattle.std.proofs.Common.{arith}
+use Rattle.session_core.proofs.EndLemmas.{begins_next}
 use Rattle.session_core.proofs.request.read_alone.Goals as goal
 
-pub behind-requires : goal.behind-requires
-behind-requires g c =
-    let before = input_of (g.I.Source.left c.args.input.now) (g.I.Source.ends c.args.input.now) in
-    let between = input_of (g.I.Source.left c.read_head.new.input) (g.I.Source.ends c.read_head.new.input) in
-    let wanted = wants_within c.read_head.new.feeder.unfinished c.in-Ok-Partial.wanted
-    (part_wants before between c.new-feeder.result c.read_head.new.feeder c.in-Ok-Partial.wanted
-    (rw c.in-Ok-Partial.field-0-is at c.in-Ok-Partial.ensures.read)) in
-    let within = c.in-Err-read_body.ensures.within in
-    omega (arith, wanted, within)
-
-pub returns-in_default-clause-none : goal.returns-in_default-clause-none
-returns-in_default-clause-none g c =
-    let before = input_of (g.I.Source.left c.args.input.now) (g.I.Source.ends c.args.input.now) in
-    let between = input_of (g.I.Source.left c.read_head.new.input) (g.I.Source.ends c.read_head.new.input) in
-    head_unread before between c.new-feeder.result c.read_head.new.feeder c.in-Ok-Partial.wanted c.new-feeder.ensures.unfinished
-    (rw c.in-Ok-Partial.field-0-is at c.in-Ok-Partial.ensures.head) (rw c.in-Ok-Partial.field-0-is at c.in-Ok-Partial.ensures.read)
-
-pub returns-in-Ok-read_body-clause-read : goal.returns-in-Ok-read_body-clause-read
-returns-in-Ok-read_body-clause-read g c =
-    let before = input_of (g.I.Source.left c.args.input.now) (g.I.Source.ends c.args.input.now) in
-    let between = input_of (g.I.Source.left c.read_head.new.input) (g.I.Source.ends c.read_head.new.input) in
-    let after = input_of (g.I.Source.left c.read_body.new.input) (g.I.Source.ends c.read_body.new.input) in
-    body_read before between after c.new-feeder.result c.read_head.new.feeder c.read_body.new.feeder c.in-Ok-Partial.wanted c.in-Ok-read_body.request
-    c.new-feeder.ensures.unfinished (rw c.in-Ok-Partial.field-0-is at c.in-Ok-Partial.ensures.read) c.in-Ok-read_body.ensures.read
-
-pub returns-in-Ok-Partial-clause-none : goal.returns-in-Ok-Partial-clause-none
-returns-in-Ok-Partial-clause-none g c =
-    let before = input_of (g.I.Source.left c.args.input.now) (g.I.Source.ends c.args.input.now) in
-    let between = input_of (g.I.Source.left c.read_head.new.input) (g.I.Source.ends c.read_head.new.input) in
-    let after = input_of (g.I.Source.left c.read_body.new.input) (g.I.Source.ends c.read_body.new.input) in
-    rw c.behind.ensures
-    (body_none c.in-Err-read_body.cause before between after c.new-feeder.result c.read_head.new.feeder c.in-Ok-Partial.wanted c.new-feeder.ensures.unfinished
-    (rw c.in-Ok-Partial.field-0-is at c.in-Ok-Partial.ensures.head)
-    c.in-Ok-Partial.ensures.ends_stay (rw c.in-Ok-Partial.field-0-is at c.in-Ok-Partial.ensures.read) c.in-Err-read_body.ensures.none)
+pub returns-in-Ok-clause-size : goal.returns-in-Ok-clause-size
+returns-in-Ok-clause-size g c =
+    let next = begins_next 0 c.read_request.new.feeder.begins c.in-Ok.request c.in-Ok.ensures.fits (omega arith) (rw c.new-feeder.ensures.begins at c.in-Ok.ensures.place) in
+    omega (arith, c.place.ensures, next)

@@ -1,4 +1,4 @@
-use Rattle.std.proofs.Common.{◌≡◌, ◌*◌, ◌≤◌, List, [], length}
+use Rattle.std.proofs.Common.{◌≡◌, ◌*◌, ◌≤◌, List, []}
 use Rattle.munge_types.specs.StandsFor.{Stands}
 use Rattle.munge_types.specs.declared.history.Event.{Event}
 use Rattle.decode_rules.specs.Terms.{IsMadeOf, WorldFiles}
@@ -26,7 +26,6 @@ invariant-requests g l = record {
   between : l.feeder.unfinished ≡ [];
   begins_bound : l.feeder.begins ≤ 2097159 * l.answered;
   entries_bound : l.entries ≤ 2 * l.answered;
-  room : 1 ≤ length l.buffer;
   ends_kept : g.I.Source.ends l.input ≡ g.I.Source.ends l.initial.input;
   reads_sound : g.I.Source.read_faults l.input ≡ g.I.Source.read_faults l.initial.input;
   writes_sound : g.O.Sink.write_faults l.out ≡ g.O.Sink.write_faults l.initial.out;

@@ -29,8 +29,8 @@ returns-in-All-clause-turned g c = λ files base own is stands at.
     (rw c.deref.ensures.value at c.in-All.ensures.appended)
     (begins_next _ _ c.in-Ok.request c.in-Ok.ensures.fits c.requires.far_from_end c.in-Ok.ensures.place) c.stops-over.ensures
 
-pub returns-clause-ended : goal.returns-clause-ended
-returns-clause-ended g c = λ files base own is stands at.
+pub returns-in-Failed-clause-ended : goal.returns-in-Failed-clause-ended
+returns-in-Failed-clause-ended g c = λ files base own is stands at.
     ended_cut (session_of c.args.world.now c.args.who files (seed_of c.args.dice.now) base) own _ _ _ _ _ _ _ _ c.args.feeder.now.begins c.in-Failed.field-0 c.in-Ok.request
     c.in-Ok-make_answer.answer.reply.items _
     c.in-Ok.ensures.fits c.in-Ok.ensures.ends_stay c.in-Ok.ensures.read (c.in-Ok-make_answer.ensures.answered files base own is stands at)

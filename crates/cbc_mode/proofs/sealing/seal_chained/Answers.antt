@@ -1,6 +1,6 @@
 use Rattle.std.proofs.Common.{arith}
-use Rattle.cbc_mode.proofs.Chains.{sealed_none, sealed_step, sealed_all}
-use Rattle.cbc_mode.proofs.sealing.seal_in_place.Goals as goal
+use Rattle.cbc_mode.proofs.Chains.{sealed_none, sealed_step, sealed_all, sealed_then}
+use Rattle.cbc_mode.proofs.sealing.seal_chained.Goals as goal
 
 pub loop-number-init : goal.loop-number-init
 loop-number-init c = sealed_none _ _ _
@@ -11,4 +11,7 @@ loop-number-preserved c =
     c.loop-number.auto.buf c.seal_block.array_long c.seal_block.ensures.kept c.seal_block.ensures.made
 
 pub returns : goal.returns
-returns c = sealed_all _ _ _ _ _ _ c.loop-number.invariant c.loop-number.auto.buf (omega arith)
+returns c = record {
+  made = sealed_all _ _ _ _ _ _ c.loop-number.invariant c.loop-number.auto.buf (omega arith);
+  goes_on = sealed_then _ _ _ _ _ _ c.loop-number.invariant c.loop-number.auto.buf (omega arith);
+}

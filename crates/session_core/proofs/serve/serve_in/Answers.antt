@@ -10,7 +10,7 @@ use Rattle.session_core.specs.WholeRequest.{AnswersIfTimed}
 use Rattle.session_core.specs.declared.served.Served.{Served}
 use Rattle.session_core.proofs.ServeLemmas.{heard_serves, unheard_serves}
 use Rattle.session_core.proofs.WholeLemmas.{complete_heard, complete_unheard}
-use Rattle.session_core.proofs.serve.serve_one.Goals as goal
+use Rattle.session_core.proofs.serve.serve_in.Goals as goal
 
 -- the laws of `Link` hold on every thread, and are asked for on this one
 pub returns-in-Ok-clause-serves : goal.returns-in-Ok-clause-serves
@@ -21,21 +21,21 @@ returns-in-Ok-clause-serves g c = λ files is.
     heard_serves (service_of (terms_of c.args.world.now c.args.who files) c.args.dice.now.seed c.args.pass.now.number)
     c.args.pass.now c.reach-reached.new.pass
     (input_of (g.L.Source.left c.args.conn.now) (g.L.Source.ends c.args.conn.now))
-    (input_of (g.L.Source.left c.send.new.conn) (g.L.Source.ends c.send.new.conn))
+    (input_of (g.L.Source.left c.send-served.new.conn) (g.L.Source.ends c.send-served.new.conn))
     (peer_of (g.L.Sink.taken c.args.conn.now) (g.L.Link.rings c.args.conn.now))
-    (peer_of (g.L.Sink.taken c.send.new.conn) (g.L.Link.rings c.send.new.conn))
-    c.in-Ok.heard.request c.in-Ok.heard.size c.reach-reached.result c.send.result
-    c.in-Ok.ensures.fits (rw c.send.ensures.left c.in-Ok.ensures.read) (c.send.ensures.ends ∙ c.in-Ok.ensures.ends_kept) c.in-Ok.ensures.size
-    c.send.ensures.tells (rw (taken, rings) at c.send.ensures.sends) (c.reach-reached.ensures.reaches files is)
+    (peer_of (g.L.Sink.taken c.send-served.new.conn) (g.L.Link.rings c.send-served.new.conn))
+    c.in-Ok.heard.request c.in-Ok.heard.size c.reach-reached.result c.send-served.result
+    c.in-Ok.ensures.fits (rw c.send-served.ensures.left c.in-Ok.ensures.read) (c.send-served.ensures.ends ∙ c.in-Ok.ensures.ends_kept) c.in-Ok.ensures.size
+    c.send-served.ensures.tells (rw (taken, rings) at c.send-served.ensures.sends) (c.reach-reached.ensures.reaches files is)
 
 pub returns-in-Ok-clause-complete : goal.returns-in-Ok-clause-complete
 returns-in-Ok-clause-complete g c = λ request brings held.
     complete_heard request c.in-Ok.heard.request
     (connection_of (input_of (g.L.Source.left c.args.conn.now) (g.L.Source.ends c.args.conn.now)) (g.L.Sink.taken c.args.conn.now) (g.L.Link.rings c.args.conn.now))
-    (g.L.Source.left c.read_alone.new.input) _ _ c.reach-reached.result c.send.result _ _ _
-    brings held c.in-Ok.ensures.fits c.in-Ok.ensures.read (c.send.ensures.tells.read_is ∙ c.in-Ok.ensures.size) c.send.ensures.sends
+    (g.L.Source.left c.read_alone.new.input) _ _ c.reach-reached.result c.send-served.result _ _ _
+    brings held c.in-Ok.ensures.fits c.in-Ok.ensures.read (c.send-served.ensures.tells.read_is ∙ c.in-Ok.ensures.size) c.send-served.ensures.sends
     (let laws = g.met.L.Link g.world.𝓛 g.world.𝓜 g.world.𝓡 ((λ s x. x), (λ x. x), (λ x. x), λ x. x) in
-    rw (laws.reads_leave_write_faults _ _ c.in-Ok.ensures.beside) at c.send.ensures.faults)
+    rw (laws.reads_leave_write_faults _ _ c.in-Ok.ensures.beside) at c.send-served.ensures.faults)
 
 pub returns-in-Err-clause-serves : goal.returns-in-Err-clause-serves
 returns-in-Err-clause-serves g c = λ files is.
