@@ -10,6 +10,7 @@ mod door;
 mod hall;
 mod link;
 mod listening_socket;
+mod read_ahead;
 mod shared;
 mod socket_file;
 mod state;

@@ -2,6 +2,7 @@
 
 ghost use Rattle.std.specs.Prelude.{◌≡◌, ℕ, None, IfOk};
 
+use crate::read_ahead::ReadAhead;
 use crate::shared::Shared;
 use crate::timed_stream::TimedStream;
 use byte_io::{Link, Sink, Source};
@@ -14,12 +15,15 @@ use std::{io, rt};
 
 /// A connection that was accepted. Its peer has a time for the request, counted from the accept,
 /// and the same again to take the reply, counted from the first write; past it, a read or a write
-/// that would have to wait fails. What goes over it it does not tell.
+/// that would have to wait fails. Short reads are served from bytes that were read ahead, so that a
+/// usual request takes one call of the system; what came behind a request is dropped with the
+/// connection. What goes over it it does not tell.
 #[derive(Drop)]
 pub struct UnixLink<R> {
     rt: R,
     shared: Arc<Shared, Global>,
     stream: TimedStream<R>,
+    ahead: ReadAhead,
     read_faults: u64,
     ends: u64,
     write_faults: u64,
@@ -43,6 +47,7 @@ impl<R: rt::Clock + Copy> UnixLink<R> {
             rt,
             shared,
             stream,
+            ahead: ReadAhead::new(),
             read_faults: 0,
             ends: 0,
             write_faults: 0,
@@ -64,7 +69,7 @@ impl<R: rt::Clock + Copy> Source for UnixLink<R> {
     ghost beside_reads = { λ s. (s.write_faults, s.rings) };
 
     fn read(&mut self, into: &mut [u8]) -> Result<usize, Failed> {
-        match self.stream.read(into) {
+        match self.ahead.read(&mut self.stream, into) {
             Ok(n) => {
                 if n == 0 && !into.is_empty() {
                     self.ends = self.ends.saturating_add(1);

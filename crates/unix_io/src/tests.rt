@@ -3,6 +3,7 @@
 mod doors;
 mod files;
 mod links;
+mod requests;
 mod tickers;
 
 use crate::{UnixDoor, UnixHall, UnixLink};
