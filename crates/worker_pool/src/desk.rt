@@ -18,7 +18,7 @@ use cred_seal::Dice;
 use decode_rules::World;
 use munge_types::Replay;
 use replay_gate::{Gate, Pass};
-use session_core::{ServeEnd, serve_one};
+use session_core::{Rooms, ServeEnd, serve_in};
 use std::alloc::Global;
 use std::sync::Wait;
 
@@ -71,11 +71,12 @@ fn worn_ticket(how: ServeEnd) -> Option<u64>
     }
 }
 
-/// Serves a connection for the caller of its post, and hands it to the book. It gives the ticket at
-/// which it found the gate worn, if it did.
+/// Serves a connection in these buffers, for the caller of its post, and hands it to the book. It
+/// gives the ticket at which it found the gate worn, if it did.
 pub(crate) fn handle<L, C, B, R, W>(
     rt: &W,
     alloc: Global,
+    rooms: &mut Rooms,
     gate: &Gate<R>,
     world: &World,
     desk: &mut Desk<C, B>,
@@ -101,9 +102,10 @@ where
         mut conn,
     } = waiting;
     let pass = desk.pass.number();
-    let served = serve_one(
+    let served = serve_in(
         rt,
         alloc,
+        rooms,
         &mut conn,
         &mut desk.clock,
         gate,
@@ -125,7 +127,8 @@ where
     worn
 }
 
-/// Serves what the worker takes from the queue, until it is empty and all acceptors have ended.
+/// Serves what the worker takes from the queue, in buffers that it keeps between connections, until
+/// the queue is empty and all acceptors have ended.
 pub(crate) fn serve_queue<L, C, B, R, W>(
     rt: &W,
     alloc: Global,
@@ -147,10 +150,12 @@ where
         C.readings C.last_reading C.given C.clock_faults B.kept in
         HasServedSeat sight shared.now.world.now shared.now.queue.now seat.old seat.new }
 {
+    let mut rooms = Rooms::new(alloc);
     for _ in rt.forever() {
         let Some(taken) = take(rt, shared.queue, shared.signal, &mut seat.pass) else {
             break;
         };
-        handle(rt, alloc, shared.gate, shared.world, &mut seat.state, taken);
+        let Shared { gate, world, .. } = shared;
+        handle(rt, alloc, &mut rooms, gate, world, &mut seat.state, taken);
     }
 }

@@ -16,6 +16,7 @@ use crate::post::Queued;
 use crate::queue::QueuePass;
 use byte_io::{Clock, Link};
 use munge_types::Replay;
+use session_core::Rooms;
 use std::alloc::Global;
 use std::sync::Wait;
 
@@ -43,11 +44,13 @@ where
         ServedRest sight shared.now.world.now shared.now.gate.now
         (view pass.old) (view pass.new) desk.old desk.new result }
 {
+    let mut rooms = Rooms::new(alloc);
     for _ in rt.forever() {
         let Some(taken) = take_left(rt, shared.queue, pass) else {
             return None;
         };
-        if let Some(ticket) = handle(rt, alloc, shared.gate, shared.world, desk, taken) {
+        let Shared { gate, world, .. } = shared;
+        if let Some(ticket) = handle(rt, alloc, &mut rooms, gate, world, desk, taken) {
             return Some(ticket);
         }
     }

@@ -13,7 +13,7 @@ use cred_seal::Dice;
 use decode_rules::World;
 use munge_types::Replay;
 use replay_gate::{Gate, Pass};
-use session_core::serve_one;
+use session_core::{Rooms, serve_in};
 use std::alloc::Global;
 use std::sync::Wait;
 use std::thread::{self, Threads};
@@ -34,10 +34,11 @@ pub(crate) struct Lane<L: Drop, C: Drop> {
     pub(crate) done: Vec<Done<L, C>>,
 }
 
-/// Serves one task with this pass and these dice.
+/// Serves one task in these buffers, with this pass and these dice.
 fn serve<L, C, R, W>(
     rt: &W,
     alloc: Global,
+    rooms: &mut Rooms,
     gate: &Gate<R>,
     world: &World,
     pass: &mut Pass,
@@ -63,8 +64,8 @@ where
         mut conn,
         mut clock,
     } = job;
-    let served = serve_one(
-        rt, alloc, &mut conn, &mut clock, gate, pass, dice, who, world,
+    let served = serve_in(
+        rt, alloc, rooms, &mut conn, &mut clock, gate, pass, dice, who, world,
     );
     Done {
         job: number,
@@ -76,7 +77,7 @@ where
 }
 
 impl<L: Link + Drop, C: Clock + Drop> Lane<L, C> {
-    /// Serves all tasks. There is room for what comes of them.
+    /// Serves all tasks, in buffers that it keeps between them. There is room for what comes of them.
     pub(crate) fn run<R: Replay + Drop, W: Wait>(
         &mut self,
         rt: &W,
@@ -89,8 +90,10 @@ impl<L: Link + Drop, C: Clock + Drop> Lane<L, C> {
             L.write_faults C.readings C.last_reading C.given C.clock_faults in
             HasRun sight world.now self.old self.new }
     {
+        let mut rooms = Rooms::new(alloc);
         while let Some(task) = self.tasks.pop() {
-            let done = serve(rt, alloc, gate, world, &mut self.pass, &mut self.dice, task);
+            let Lane { pass, dice, .. } = self;
+            let done = serve(rt, alloc, &mut rooms, gate, world, pass, dice, task);
             self.done.push_reserved(done);
         }
     }
