@@ -6,13 +6,17 @@
 
 mod aes;
 mod caller;
+mod cost;
+mod credential;
 mod exercise;
 mod gate;
 mod groups;
 mod lane;
 mod pace;
+mod parts;
 mod rate;
 mod replay;
+mod sample;
 mod session;
 
 use std::process::ExitCode;
@@ -22,6 +26,7 @@ fn main(rt: HostRuntime) -> io::Result<ExitCode> {
     for word in env::args(&rt)?.skip(1) {
         match word.as_str() {
             "aes" => aes::run(&rt)?,
+            "credential" => credential::run(&rt, rt.alloc())?,
             "exercise" => exercise::run(&rt, rt.alloc())?,
             "gate" => gate::run(&rt, rt.alloc())?,
             "groups" => groups::run(&rt, rt.alloc())?,
