@@ -48,7 +48,7 @@ const ALGORITHMS: [(Cipher, MacKind); 8] = [
 const PAYLOADS: [(u32, u32); 3] = [(5, 1000), (65_536, 8), (1_048_576, 1)];
 
 /// Asks for such a credential.
-pub(crate) fn request_of<'p>(sample: &Sample, payload: &'p [u8]) -> SealRequest<'p> {
+fn request_of<'p>(sample: &Sample, payload: &'p [u8]) -> SealRequest<'p> {
     SealRequest {
         cipher: sample.cipher.number(),
         kind: sample.kind.number(),
@@ -99,15 +99,7 @@ fn print_line<R: Print>(
     let rate = cost.rate(sample.payload);
     let whole = rate / 10;
     let tenth = rate % 10;
-    let sum = parts.sum();
-    let Parts {
-        hash,
-        cipher,
-        base64,
-    } = parts;
-    println!(rt;
-        "{what} {sample} {cost} ns {whole}.{tenth} MB/s parts {sum} ns hash {hash} cipher {cipher} base64 {base64}"
-    )
+    println!(rt; "{what} {sample} {cost} ns {whole}.{tenth} MB/s parts {parts}")
 }
 
 /// Times such a credential, both ways.

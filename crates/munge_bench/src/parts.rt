@@ -12,8 +12,8 @@ use base64::engine::general_purpose::STANDARD;
 use cbc_mode::{open_in_place, seal_in_place};
 use munge_types::{Cipher, MacBytes, MacKind};
 use std::alloc::Global;
-use std::io;
 use std::time::CpuClock;
+use std::{fmt, io};
 use subkeys::Subkeys;
 
 /// The vector before the first block.
@@ -22,7 +22,7 @@ const VECTOR: [u8; 16] = [0x3c; 16];
 /// The byte that buffers are filled with.
 const FILLING: u8 = 0x5a;
 
-/// What each part costs.
+/// What each part costs. It is shown in nanoseconds, all of them together and then each.
 #[derive(Clone, Copy)]
 pub(crate) struct Parts {
     pub(crate) hash: Cost,
@@ -66,6 +66,18 @@ impl Parts {
             + self.now.base64.tenths) (2 ^ 128 - 1) }
     {
         self.hash.with(self.cipher).with(self.base64)
+    }
+}
+
+impl fmt::Display for Parts {
+    fn fmt<W: fmt::Write>(&self, f: &mut fmt::Formatter<W>) -> fmt::Result {
+        let sum = self.sum();
+        let Parts {
+            hash,
+            cipher,
+            base64,
+        } = self;
+        write!(f, "{sum} ns hash {hash} cipher {cipher} base64 {base64}")
     }
 }
 

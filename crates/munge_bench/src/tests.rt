@@ -36,53 +36,44 @@ fn parts_are_shown_together(rt: HostRuntime) -> Result<(), Fail> {
         cipher: Cost::each(10, Duration::from_micros(4)),
         base64: Cost::each(1, Duration::from_micros(2)),
     };
-    let sum = parts.sum();
-    assert_eq!(rt; format!(in rt.alloc(); "{sum}")?.as_str(), "2733.3");
-    assert_eq!(rt; sum.rate(65_536), 239_768);
+    let shown = format!(in rt.alloc(); "{parts}")?;
+    assert_eq!(rt;
+        shown.as_str(),
+        "2733.3 ns hash 333.3 cipher 400.0 base64 2000.0"
+    );
+    assert_eq!(rt; parts.sum().rate(65_536), 239_768);
     Ok(())
 }
 
-/// The sizes come from the layout of a credential: 5 bytes of outer part, 16 of vector, the MAC, and
-/// 41 of inner part before the payload, in blocks of 16 where there is a cipher.
+fn sample(cipher: Cipher, kind: MacKind, payload: u32) -> Sample {
+    Sample {
+        cipher,
+        kind,
+        payload,
+        calls: 1,
+    }
+}
+
+/// What is hashed, encrypted and spelled, by the layout of a credential: 5 bytes of outer part and 16
+/// of vector, the MAC, and 41 bytes before the payload, in blocks of 16 where there is a cipher.
 #[test]
 fn parts_go_over_the_bytes_of_a_credential(rt: HostRuntime) -> Result<(), Fail> {
-    for (cipher, kind, payload, shown, hashed, sealed, body) in [
-        (Cipher::None, MacKind::Sha1, 5, "none sha-1 5", 51, 46, 71),
+    let plain = sample(Cipher::None, MacKind::Sha1, 5);
+    let small = sample(Cipher::Aes128, MacKind::Sha256, 5);
+    let whole = sample(Cipher::Aes256, MacKind::Sha512, 7);
+    let large = sample(Cipher::Aes128, MacKind::Sha512, 1_048_576);
+    for (sample, shown, sizes) in [
+        (plain, "none sha-1 5", [51, 46, 71]),
+        (small, "aes-128 sha-256 5", [67, 48, 101]),
+        (whole, "aes-256 sha-512 7", [69, 64, 149]),
         (
-            Cipher::Aes128,
-            MacKind::Sha256,
-            5,
-            "aes-128 sha-256 5",
-            67,
-            48,
-            101,
-        ),
-        (
-            Cipher::Aes256,
-            MacKind::Sha512,
-            7,
-            "aes-256 sha-512 7",
-            69,
-            64,
-            149,
-        ),
-        (
-            Cipher::Aes128,
-            MacKind::Sha512,
-            1_048_576,
+            large,
             "aes-128 sha-512 1048576",
-            1_048_638,
-            1_048_624,
-            1_048_709,
+            [1_048_638, 1_048_624, 1_048_709],
         ),
     ] {
-        let sample = Sample {
-            cipher,
-            kind,
-            payload,
-            calls: 1,
-        };
         assert_eq!(rt; format!(in rt.alloc(); "{sample}")?.as_str(), shown);
+        let [hashed, sealed, body] = sizes;
         assert_eq!(rt; sample.hashed_size(), hashed, "{shown}");
         assert_eq!(rt; sample.sealed_size(), sealed, "{shown}");
         assert_eq!(rt; sample.body_size(), body, "{shown}");
