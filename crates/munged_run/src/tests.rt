@@ -5,6 +5,7 @@ mod check;
 mod ciphers;
 mod credential;
 mod exercise;
+mod failures;
 mod faults;
 mod fixture;
 mod purging;

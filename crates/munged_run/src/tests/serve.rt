@@ -43,7 +43,7 @@ const SOUND: Outside = Outside {
 const NO_KEY: &[u8] = b"key = \"none\"\n[[socket]]\npath = \"a\"\nuid = 7\ngid = 7\n";
 
 /// What is printed where the text came once.
-const ONE: &str = "ready\npresented 1 accepted 1 replayed 0 expired 0 kept 1\n";
+pub(super) const ONE: &str = "ready\npresented 1 accepted 1 replayed 0 expired 0 kept 1\n";
 
 /// Both connections of the other door.
 const OTHER: &[(u32, u64)] = &[(1, 0), (1, 1)];
@@ -134,7 +134,7 @@ fn workers_keep_both(rt: HostRuntime) -> Result<(), Fail> {
 }
 
 /// A run that ends with this status once it has printed this.
-fn ends(status: u8, printed: &str) -> Wanted<'_> {
+pub(super) fn ends(status: u8, printed: &str) -> Wanted<'_> {
     let said = match status {
         6 => "output failed",
         12 => "socket failed",
