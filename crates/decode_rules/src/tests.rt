@@ -2,7 +2,7 @@
 //! vectors, for a key file and a seed of 32 zeros and the caller 7, 7; frames were written out by
 //! hand from the layout of the messages.
 
-use crate::{Prepared, Reply, World, complete, prepare};
+use crate::{Prepared, Reply, World, complete, prepare, prepare_in};
 use group_map::GroupMap;
 use munge_types::{Identity, Settings, Status, Verdict};
 use std::alloc::Global;
@@ -96,6 +96,48 @@ fn text_by_each_verdict(rt: HostRuntime) -> Result<(), Fail> {
         let reply = complete(ready, verdict, 258);
         let place = [0, 0, 0, 0, 0, 0, 1, 2];
         assert_says(&rt, rt.alloc(), &reply, (status, rule), 45, place, SHOWN)?;
+    }
+    Ok(())
+}
+
+/// What a text comes to inside a buffer of its length, with the reply in the memory of a vector of so
+/// many bytes. Both held others.
+fn prepared_inside(
+    alloc: Global,
+    world: &World,
+    moment: u32,
+    text: &[u8],
+    size: usize,
+) -> Result<Prepared, Fail> {
+    let mut work = vec![in alloc; 0x5au8; text.len()]?;
+    let memory = vec![in alloc; 0x5au8; size]?;
+    Ok(prepare_in(memory, world, WHO, moment, &mut work, text)?)
+}
+
+#[test]
+fn texts_inside_a_buffer(rt: HostRuntime) -> Result<(), Fail> {
+    let alloc = rt.alloc();
+    let world = usual_world()?;
+    // No memory for the reply, less than it needs, as much as the longer one does, and more.
+    for size in [0, 16, 52, 300] {
+        let Prepared::Refused(reply) = prepared_inside(alloc, &world, 1000, b"MUNGE:", size)? else {
+            panic!(rt; "no text comes to something else");
+        };
+        let said = (Status::BadCredential, 1);
+        assert_says(&rt, alloc, &reply, said, 10, [255; 8], b"")?;
+        let Prepared::Refused(reply) = prepared_inside(alloc, &world, 699, SEALED, size)? else {
+            panic!(rt; "the text of later comes to something else");
+        };
+        let said = (Status::Rewound, 12);
+        assert_says(&rt, alloc, &reply, said, 45, [255; 8], SHOWN)?;
+        let Prepared::Ready(ready) = prepared_inside(alloc, &world, 1000, SEALED, size)? else {
+            panic!(rt; "the text comes to something else");
+        };
+        assert_eq!(rt; ready.pair().expiry, 1300, "the expiry");
+        let reply = complete(ready, Verdict::Accepted, 258);
+        let said = (Status::Success, 0);
+        let place = [0, 0, 0, 0, 0, 0, 1, 2];
+        assert_says(&rt, alloc, &reply, said, 45, place, SHOWN)?;
     }
     Ok(())
 }

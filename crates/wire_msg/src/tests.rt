@@ -3,7 +3,7 @@
 
 use crate::{
     Bytes, Content, DecodeSaid, EncodeAsk, EncodeSaid, Fed, Feeder, FrameRefused, Kind, Message,
-    Side, content_head, frame, message_head, reply_head,
+    Side, content_head, frame, frame_in, message_head, reply_head,
 };
 use std::alloc::Global;
 use std::process::Abort;
@@ -301,6 +301,35 @@ fn heads_and_payload_are_the_frame(rt: HostRuntime) -> Result<(), Fail> {
 }
 
 #[test]
+fn frames_in_memory_that_is_given(rt: HostRuntime) -> Result<(), Fail> {
+    let message = decode_reply(rt.alloc())?;
+    // No memory, less than the frame needs, as much, and more.
+    for size in [0, 51, 52, 300] {
+        let made = frame_in(vec![in rt.alloc(); 0x5a; size]?, &message)?;
+        assert_eq!(rt; made.as_slice(), DECODE_REPLY, "in {size} bytes");
+    }
+    Ok(())
+}
+
+#[test]
+fn bodies_in_memory_that_is_lent(rt: HostRuntime) -> Result<(), Fail> {
+    let message = encode_request(rt.alloc())?;
+    // No memory, less than the payload needs, as much, and more; lent before the frame, and anew
+    // before its body, and inside it.
+    for size in [0, 4, 5, 300] {
+        let mut feeder = Feeder::new(rt.alloc(), Side::Requests);
+        for count in [0, 7, 22] {
+            feeder.lend(vec![in rt.alloc(); 0x5a; size]?);
+            feed_more(&rt, &mut feeder, &ENCODE_REQUEST[..count])?;
+            feeder.lend(vec![in rt.alloc(); 0x5a; size]?);
+            let rest = &ENCODE_REQUEST[count..];
+            feed_message(&rt, &mut feeder, rest, rest.len(), &message)?;
+        }
+    }
+    Ok(())
+}
+
+#[test]
 fn largest_body_in_three_pieces(rt: HostRuntime) -> Result<(), Fail> {
     let text = vec![in rt.alloc(); 0x5a; 2_097_152]?;
     let largest = Message::DecodeRequest(Bytes::of(text));
@@ -326,5 +355,7 @@ fn one_byte_too_long(rt: HostRuntime) -> Result<(), Fail> {
     let text = vec![in rt.alloc(); 0x5a; 2_097_153]?;
     let above = Message::DecodeRequest(Bytes::of(text));
     assert!(rt; frame(rt.alloc(), &above) == Err(FrameRefused::TooLong(2_097_153)));
+    let buffer = Vec::new(rt.alloc());
+    assert!(rt; frame_in(buffer, &above) == Err(FrameRefused::TooLong(2_097_153)));
     Ok(())
 }
